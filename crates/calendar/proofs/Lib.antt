@@ -1,0 +1,4 @@
+pub mod Table
+pub mod MonthPlaces
+pub mod Weeks
+pub mod Floors

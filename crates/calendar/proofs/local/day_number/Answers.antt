@@ -1,0 +1,8 @@
+use borrow.Author.Needs.{needs}
+use Rattle.calendar.specs.Local.{dayOf}
+use Rattle.calendar.proofs.Floors.{falls}
+use Rattle.calendar.proofs.local.day_number.Needs as need
+
+pub returns : need.returns
+unfolding dayOf
+returns c = record { answer = search needs; falls = falls (c .args .local) }

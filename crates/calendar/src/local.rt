@@ -1,0 +1,27 @@
+ghost use Rattle.calendar.specs.Local.{Falls, dayOf, localTime, timeOf};
+ghost use lib.IntN.{pos};
+ghost use mathlib.Core.Path.{_≡_};
+
+// The second plus the offset, and an hour more in summer. It may be negative and is never wrapped.
+pub fn local_time(second: u32, offset: i32, summer: bool) -> i64
+    ensures { λ r. ⌜ r ≡ localTime second offset summer ⌝ }
+{
+    let standard = i64::from(second) + i64::from(offset);
+    if summer { standard + 3600 } else { standard }
+}
+
+// The day on which a local time falls.
+pub fn day_number(local: i64) -> i64
+    ensures answer { λ r. ⌜ r ≡ dayOf local ⌝ }
+    ensures falls { λ _. ⌜ Falls local (dayOf local) (timeOf local) ⌝ }
+{
+    local.div_euclid(86400)
+}
+
+// The second of that day.
+pub fn time_of_day(local: i64) -> u32
+    ensures answer { λ r. ⌜ r ≡ timeOf local ⌝ }
+    ensures falls { λ _. ⌜ Falls local (dayOf local) (timeOf local) ⌝ }
+{
+    local.rem_euclid(86400) as u32
+}
