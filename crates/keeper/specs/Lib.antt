@@ -1,0 +1,4 @@
+pub mod Least
+pub mod Best
+pub mod Offers
+pub mod Fewer

@@ -1,0 +1,5 @@
+pub mod Zone
+pub mod Sundays
+pub mod Years
+pub mod Laws
+pub mod Examples
