@@ -13,10 +13,10 @@ pub european : (o : ℤ) (s : ℕ) (r : Bool) → r ≡ europe o s → Decides r
 european o s r e =
     subst (λ (b : Bool). Decides b (EuropeanSummer s)) (sym e)
     (lawful (λ k. IsLastSunday (march k)) (λ k. IsLastSunday (october k)) 1 1 (λ k. lastSunday (march k)) (λ k. lastSunday (october k))
-      (λ k. last-in (march k)) (λ k. last-only (march k)) (λ k. last-in (october k)) (λ k. last-only (october k)) (pos s))
+    (λ k. last-in (march k)) (λ k. last-only (march k)) (λ k. last-in (october k)) (λ k. last-only (october k)) (pos s))
 
 pub american : (o : ℤ) (s : ℕ) (r : Bool) → r ≡ america o s → Decides r (AmericanSummer o s)
 american o s r e =
     subst (λ (b : Bool). Decides b (AmericanSummer o s)) (sym e)
     (lawful (λ k. IsSecondSunday (march k)) (λ k. IsFirstSunday (november k)) 2 1 (λ k. firstSunday (march k) + 7) (λ k. firstSunday (november k))
-      (λ k. second-in (march k)) (λ k. second-only (march k)) (λ k. first-in (november k)) (λ k. first-only (november k)) (standardTime o s))
+    (λ k. second-in (march k)) (λ k. second-only (march k)) (λ k. first-in (november k)) (λ k. first-only (november k)) (standardTime o s))

@@ -26,12 +26,12 @@ module _ (p : ℕ → Bool) (s n limit : ℕ) (stays : (m : ℕ) → s ≤ m →
 
   pub next-at : s < n → n ≤ limit → p n ≡ not (p s) → leastLater (changes p) s limit ≡ Some n
   next-at later h turns =
-    sym (least-only (changes p) s limit (Some n) (record {
-      later = later;
-      within = h;
-      holds = other-answers (p n) (p (n - 1)) (turns ∙ ap not (sym (stays (n - 1) (omega arith) (omega arith))));
-      first = quiet;
-    }))
+      sym (least-only (changes p) s limit (Some n) (record {
+        later = later;
+        within = h;
+        holds = other-answers (p n) (p (n - 1)) (turns ∙ ap not (sym (stays (n - 1) (omega arith) (omega arith))));
+        first = quiet;
+      }))
 
   pub next-past : limit < n → leastLater (changes p) s limit ≡ None
   next-past h = sym (least-only (changes p) s limit None (λ m l u. quiet m l (omega arith)))

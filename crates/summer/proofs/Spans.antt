@@ -155,13 +155,20 @@ module _ (Begins Ends : ℕ → ℕ → Type 0) (h i : ℕ) (first last : ℕ �
   pub lawful : Decides (summerAt (λ k. hourOn (first k) h) (λ k. hourOn (last k) i) t) (InSomeYear Begins h Ends i t)
   unfolding someYear within
   lawful =
-    let d = decides-below-or within _ (someYear within) each refl (λ _. refl) 137 in (
-      (λ e. let w = d .0 e in record {
-        year = w .0; known = omega (arith, w .1); first = first (w .0); begins = begins (w .0); last = last (w .0); ends = ends (w .0); begun = w .2 .0; lasting = w .2 .1;
-      }),
-      (λ y.
-          let e = one-begin (y .year) (y .first) (y .begins) in
-          let f = one-end (y .year) (y .last) (y .ends) in
-          let k = y .known in let a = y .begun in let b = y .lasting in
-          d .1 (y .year, omega arith, (omega (arith, ints), omega (arith, ints)))),
-    )
+      let d = decides-below-or within _ (someYear within) each refl (λ _. refl) 137 in (
+        (λ e. let w = d .0 e in record {
+          year = w .0;
+          known = omega (arith, w .1);
+          first = first (w .0);
+          begins = begins (w .0);
+          last = last (w .0);
+          ends = ends (w .0);
+          begun = w .2 .0;
+          lasting = w .2 .1;
+        }),
+        (λ y.
+            let e = one-begin (y .year) (y .first) (y .begins) in
+            let f = one-end (y .year) (y .last) (y .ends) in
+            let k = y .known in let a = y .begun in let b = y .lasting in
+            d .1 (y .year, omega arith, (omega (arith, ints), omega (arith, ints)))),
+      )
