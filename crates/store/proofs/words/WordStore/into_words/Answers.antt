@@ -1,0 +1,10 @@
+use Rattle.layout.specs.Layout.{cellCount}
+use Rattle.std.proofs.shelf.Lists.{take-append-drop}
+use Rattle.store.proofs.words.WordStore.into_words.Needs as need
+use mathlib.Core.Path.{sym, _∙_}
+
+pub returns : need.returns
+returns c = record {
+  answer = c .taken-apart .ensures .answer ∙ sym (take-append-drop cellCount (c .args .self .words .now));
+  home = c .taken-apart .ensures .home;
+}
