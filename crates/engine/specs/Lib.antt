@@ -1,3 +1,4 @@
+pub mod Looks
 pub mod Book
 pub mod Run
 pub mod Engines

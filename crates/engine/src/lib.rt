@@ -1,11 +1,15 @@
 // The engine: a clock, a store and a rule, the edit that stands open, and work orders.
 mod edits;
 mod engine;
+mod look;
 mod run;
 mod stopped;
 mod ticket;
 mod time;
 
 pub use engine::Engine;
+pub use look::tables_of;
 pub use stopped::Stopped;
+pub use stopped::StoppedDebug;
+pub use stopped::StoppedPartialEq;
 pub use ticket::Ticket;

@@ -1,3 +1,4 @@
 pub mod Leasts
 pub mod Bests
 pub mod Ranked
+pub mod Offering

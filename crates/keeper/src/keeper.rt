@@ -1,5 +1,5 @@
 ghost use Rattle.keeper.specs.Best.{IsFirstBest, firstBest};
-ghost use Rattle.keeper.specs.Offers.{ranked};
+ghost use Rattle.keeper.specs.Offers.{placeOf, ranked};
 ghost use mathlib.Core.List.{List, [], _∷_, _++_};
 ghost use mathlib.Core.Path.{_≡_};
 use crate::offer::Offer;
@@ -39,4 +39,21 @@ impl<K: Rank + Drop, P: Drop> Keeper<K, P> {
         let Keeper { best } = self;
         best
     }
+
+    // The place that the best came from.
+    pub fn best_place(self) -> Option<P>
+        ensures answer { λ r. ⌜ r ≡ placeOf (self .best) ⌝ }
+    {
+        match self.best() {
+            Some(best) => Some(taken_from(best)),
+            None => None,
+        }
+    }
+}
+
+fn taken_from<K: Drop, P>(offer: Offer<K, P>) -> P
+    ensures answer { λ r. ⌜ r ≡ offer .place ⌝ }
+{
+    let Offer { rank: _, place } = offer;
+    place
 }

@@ -1,0 +1,76 @@
+-- The month and the date of a day are those of its only date.
+use Prim.Native.Nat.{ℕ, _+_, _-_, _*_, _<_, _≤_}
+use mathlib.Core.Path.{_≡_, refl, sym, ap, subst, _∙_}
+use mathlib.Core.Bool.{Bool, true, false}
+use native.Mathlib.Omega.{arith}
+use borrow.Author.Differences.{ints}
+use lib.IntN.{ℤ, pos, negsuc, _+ℤ_, _-ℤ_, natAbs}
+use lib.Signed.{ltZ, _≤ℤ_, _<ℤ_}
+use Rattle.std.specs.declared.option.Option.{Option}
+use Rattle.std.specs.declared.option.Option.the-variants.{Some, None}
+use Rattle.calendar.specs.Months.{firstOf, monthAt}
+use Rattle.std.specs.Numbers.{remEuclid}
+use Rattle.calendar.specs.Weekdays.{weekdayOf}
+use Rattle.calendar.specs.Dates.{InDays, IsDate, placeOf}
+use Rattle.calendar.proofs.MonthPlaces.{climbs, ends, from-first, short, to-next}
+use Rattle.keeper.specs.Least.{leastLater}
+use Rattle.keeper.proofs.Leasts.{least-only}
+use Rattle.schedule.specs.Days.{nextMonth, monthBefore, dateBefore, monthOf, dateOf}
+
+below : (a b : ℤ) → a <ℤ b → ltZ a b ≡ true
+below a b h = grind (arith, ints)
+
+above : (a b : ℤ) → b ≤ℤ a → ltZ a b ≡ false
+above a b h = grind (arith, ints)
+
+module _ (d : ℤ) (y m k : ℕ) (i : IsDate d y m k) (h : InDays d) where
+  early : placeOf y m < 1635
+  early =
+      let late : 1635 ≤ placeOf y m → ⊥ = λ g.
+      let a = climbs 1635 (placeOf y m) g in let e = ends in let f = from-first d y m k i in let t = h .to in omega (arith, ints) in
+      omega arith
+
+  next-month : nextMonth d ≡ Some (placeOf y m + 1)
+  unfolding nextMonth
+  next-month =
+      sym (least-only (λ j. ltZ d (firstOf j)) 0 1635 (Some (placeOf y m + 1)) (record {
+        later = omega arith;
+        within = let e = early in omega arith;
+        holds = below d (firstOf (placeOf y m + 1)) (to-next d y m k i);
+        first = λ j a b. above d (firstOf j) (let u = climbs j (placeOf y m) (omega arith) in let v = from-first d y m k i in omega (arith, ints));
+      }))
+
+  pub month-is : monthOf d ≡ m
+  unfolding monthOf
+  month-is = let a = i .month-from in let b = i .month-to in let c = i .begun in ap monthBefore next-month ∙ omega arith
+
+  pub date-is : dateOf d ≡ k
+  unfolding dateOf
+  date-is =
+      let n = i .number in
+      let e : placeOf y m + 1 - 1 ≡ placeOf y m = omega arith in
+      let f : firstOf (placeOf y m + 1 - 1) ≡ firstOf (placeOf y m) = ap firstOf e in
+      let g : (d -ℤ firstOf (placeOf y m + 1 - 1)) +ℤ pos 1 ≡ pos k = omega (arith, ints) in
+      ap (dateBefore d) next-month ∙ ap natAbs g
+
+seven : (z : ℤ) → natAbs (remEuclid z (pos 7)) < 7
+seven (pos a) = omega arith
+seven (negsuc a) = omega arith
+
+pub weekday-most : (w : ℕ) (d : ℤ) → w ≡ weekdayOf d → w ≤ 7
+unfolding weekdayOf
+weekday-most w d e = let h = seven (d +ℤ pos 4) in omega arith
+
+-- the parts of the date that the calendar answers for the same day
+pub record Parts (d : ℤ) (m k : ℕ) : Type 0 where
+  pub month : m ≡ monthOf d
+  pub date : k ≡ dateOf d
+  pub month-most : m ≤ 12
+  pub date-most : k ≤ 31
+
+pub parts : (d e : ℤ) (y m k : ℕ) → IsDate e y m k → e ≡ d → InDays d → Parts d m k
+parts d e y m k i q h =
+    let j : IsDate d y m k = subst (λ (x : ℤ). IsDate x y m k) q i in
+    let n = short y m in
+    let l = i .day-to in
+    record { month = sym (month-is d y m k j h); date = sym (date-is d y m k j h); month-most = i .month-to; date-most = omega arith }

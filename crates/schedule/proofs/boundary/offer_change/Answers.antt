@@ -1,0 +1,7 @@
+use mathlib.Core.Path.{_≡_, ap}
+use Rattle.schedule.specs.Numbered.{alone}
+use Rattle.schedule.proofs.Soon.{pushed}
+use Rattle.schedule.proofs.boundary.offer_change.Needs as need
+
+pub returns-in-Some : need.returns-in-Some
+returns-in-Some c = λ xs h. pushed xs _ _ _ (c .offer .ensures .after _ h) (ap alone (c .in-Some .is))

@@ -1,0 +1,14 @@
+pub mod Numbered
+pub mod Bits
+pub mod Cells
+pub mod Filled
+pub mod Days
+pub mod RowInForce
+pub mod Plans
+pub mod EventInForce
+pub mod Openings
+pub mod Boundaries
+pub mod Candidates
+pub mod Soonest
+pub mod Looks
+pub mod Moments

@@ -1,0 +1,20 @@
+-- The row, the plan and the events of each day of a timetable. Assumes nothing.
+use Prim.Native.Nat.{ℕ}
+use mathlib.Core.List.{List, []}
+use lib.IntN.{ℤ}
+use lib.ListN.{getD}
+use Rattle.schedule.specs.Cells.{Timetable}
+use Rattle.schedule.specs.RowInForce.{rowOn, rowPlan}
+use Rattle.schedule.specs.declared.event.Event.{Event}
+
+-- the counting events of a plan
+unfoldable pub eventsOf : Timetable → ℕ → List Event
+eventsOf z p = getD (z .plans) p []
+
+-- the plan of a day
+unfoldable pub planOn : Timetable → ℤ → ℕ
+planOn z d = rowPlan (rowOn (z .rows) d)
+
+-- the counting events of a day's plan
+abbrev pub eventsOn : Timetable → ℤ → List Event
+eventsOn z d = eventsOf z (planOn z d)
