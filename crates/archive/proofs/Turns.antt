@@ -55,7 +55,7 @@ module _ {k : Kind} {start : Meaning} {calls : List Call} where
     rule = t .rule ∙ h .rule;
     rest = t .rest ∙ h .rest;
     home = t .home ∙ h .home;
-    answers = append-assoc out (a ∷ []) _ ∙ ap (λ l. out ++ l) ((λ i. t .answer i ∷ answers k (t .rule i) (t .time i) (t .book i) left)) ∙ h .answers
+    answers = append-assoc out (a ∷ []) _ ∙ ap (λ l. out ++ l) ((λ i. t .answer i ∷ answers k (t .rule i) (t .time i) (t .book i) left)) ∙ h .answers;
   }
 
   over : {at : Meaning} {out : List Answer} → Sofar k start calls at out [] → Lived k start calls at out

@@ -115,8 +115,8 @@ one-value : (cs : List ℕ) (e : Entry) (c : ℕ) → c < length cs → getD (se
 one-value cs e c h =
     ⊎-elim
     (λ (same : c ≡ e .cell). let inside : e .cell < length cs = omega arith in
-      ap (λ (k : ℕ). getD (set cs (e .cell) (e .value)) k 0) same ∙ getD-set-same cs (e .cell) (e .value) 0 inside
-      ∙ sym (rw (eq-eqb (e .cell) c (sym same))))
+    ap (λ (k : ℕ). getD (set cs (e .cell) (e .value)) k 0) same ∙ getD-set-same cs (e .cell) (e .value) 0 inside
+    ∙ sym (rw (eq-eqb (e .cell) c (sym same))))
     (λ (other : c ≡ e .cell → ⊥). getD-set-other cs (e .cell) c (e .value) 0 other ∙ sym (rw (ne-eqb (e .cell) c (λ g. other (sym g)))))
     (cases-eq c (e .cell))
 

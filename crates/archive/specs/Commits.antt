@@ -16,7 +16,7 @@ use Rattle.edit.specs.Drafts.{Draft}
 use Rattle.orders.specs.declared.command.Command.{Command}
 use Rattle.orders.specs.declared.command.Command.the-variants as command
 use Rattle.orders.specs.Form.{Form, Placed, form}
-use Rattle.engine.specs.Book.{State} 
+use Rattle.engine.specs.Book.{State}
 use Rattle.engine.specs.Book as engine
 use Rattle.archive.specs.declared.calls.Call.{Call}
 use Rattle.archive.specs.declared.calls.Call.the-variants as call

@@ -66,7 +66,10 @@ fn came_to(r: Result<(), Stopped>) -> Answer
 }
 
 // Makes one call on an engine, and answers what it answered.
-pub fn perform<C: SettableClock, S: Store, R: SummerRule>(engine: &mut Engine<C, S, R>, call: Call) -> Answer
+pub fn perform<C: SettableClock, S: Store, R: SummerRule>(
+    engine: &mut Engine<C, S, R>,
+    call: Call,
+) -> Answer
     ensures answer { λ r. ⌜ r ≡ answer (kindOf (C·SettableClock .first) (C·SettableClock .last) (C·SettableClock .spanFor)) (inForce (now (engine .entry) .rule)) (C·Clock .time (now (engine .entry) .clock), C·Clock .span (now (engine .entry) .clock)) (stateOf cells (now (engine .entry))) (call .entry) ⌝ }
     ensures time { λ _. ⌜ (C·Clock .time (now (engine .exit) .clock), C·Clock .span (now (engine .exit) .clock)) ≡ tick (kindOf (C·SettableClock .first) (C·SettableClock .last) (C·SettableClock .spanFor)) (C·Clock .time (now (engine .entry) .clock), C·Clock .span (now (engine .entry) .clock)) (call .entry) ⌝ }
     ensures book { λ _. ⌜ stateOf cells (now (engine .exit)) ≡ step (stateOf cells (now (engine .entry))) (call .entry) ⌝ }
@@ -98,7 +101,11 @@ pub fn perform<C: SettableClock, S: Store, R: SummerRule>(engine: &mut Engine<C,
 }
 
 // Makes the calls in turn while there is a place for the answer, and answers how many it made.
-pub fn live<C: SettableClock, S: Store, R: SummerRule>(engine: &mut Engine<C, S, R>, calls: &[Call], answers: &mut [Answer]) -> usize
+pub fn live<C: SettableClock, S: Store, R: SummerRule>(
+    engine: &mut Engine<C, S, R>,
+    calls: &[Call],
+    answers: &mut [Answer],
+) -> usize
     ensures answer { λ n. ⌜ n ≡ min (length (now (calls .entry))) (length (now (answers .entry))) ⌝ }
     ensures lived { λ n. ⌜ Lived (kindOf (C·SettableClock .first) (C·SettableClock .last) (C·SettableClock .spanFor)) (meaning (C·Clock .time) (C·Clock .span) cells rest home inForce (now (engine .entry))) (take n (now (calls .entry))) (meaning (C·Clock .time) (C·Clock .span) cells rest home inForce (now (engine .exit))) (take n (now (answers .exit))) ⌝ }
     ensures same { λ n. ⌜ drop n (now (answers .exit)) ≡ drop n (now (answers .entry)) ⌝ }

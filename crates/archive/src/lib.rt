@@ -1,7 +1,7 @@
 // The archive: any history of a meter, the book of it, and what a reader finds again.
 mod calls;
-mod confirm;
 mod history;
+mod parties;
 mod ticket;
 mod unset;
 
@@ -9,11 +9,11 @@ pub use calls::Answer;
 pub use calls::AnswerDebug;
 pub use calls::AnswerPartialEq;
 pub use calls::Call;
-pub use confirm::Confirmation;
-pub use confirm::confirm;
-pub use confirm::confirm_unset;
 pub use history::live;
 pub use history::perform;
+pub use parties::Confirmation;
+pub use parties::confirm;
+pub use parties::confirm_unset;
 pub use unset::Unset;
 pub use unset::UnsetSet;
 pub use unset::UnsetTime;

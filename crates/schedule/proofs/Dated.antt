@@ -2,20 +2,22 @@
 use Prim.Native.Nat.{ℕ, _+_, _-_, _*_, _<_, _≤_}
 use mathlib.Core.Path.{_≡_, refl, sym, ap, subst, _∙_}
 use mathlib.Core.Bool.{Bool, true, false}
+use mathlib.Core.Logic.{_⊎_, inl, inr}
 use native.Mathlib.Omega.{arith}
 use borrow.Author.Differences.{ints}
 use lib.IntN.{ℤ, pos, negsuc, _+ℤ_, _-ℤ_, natAbs}
 use lib.Signed.{ltZ, _≤ℤ_, _<ℤ_}
 use Rattle.std.specs.declared.option.Option.{Option}
 use Rattle.std.specs.declared.option.Option.the-variants.{Some, None}
-use Rattle.calendar.specs.Months.{firstOf, monthAt}
+use Rattle.calendar.specs.Months.{firstOf, monthAt, yearAt}
+use Rattle.std.proofs.shelf.Tests.{cases-lt}
 use Rattle.std.specs.Numbers.{remEuclid}
 use Rattle.calendar.specs.Weekdays.{weekdayOf}
 use Rattle.calendar.specs.Dates.{InDays, IsDate, placeOf}
-use Rattle.calendar.proofs.MonthPlaces.{climbs, ends, from-first, short, to-next}
-use Rattle.keeper.specs.Least.{leastLater}
-use Rattle.keeper.proofs.Leasts.{least-only}
-use Rattle.schedule.specs.Days.{nextMonth, monthBefore, dateBefore, monthOf, dateOf}
+use Rattle.calendar.proofs.MonthPlaces.{begins, climbs, ends, found, from-first, short, to-next}
+use Rattle.keeper.specs.Least.{leastLater, Least, IsLeast}
+use Rattle.keeper.proofs.Leasts.{least-is, least-only}
+use Rattle.schedule.specs.Days.{nextMonth, monthBefore, dateBefore, monthOf, dateOf, DaysHaveDates}
 
 below : (a b : ℤ) → a <ℤ b → ltZ a b ≡ true
 below a b h = grind (arith, ints)
@@ -74,3 +76,27 @@ parts d e y m k i q h =
     let n = short y m in
     let l = i .day-to in
     record { month = sym (month-is d y m k j h); date = sym (date-is d y m k j h); month-most = i .month-to; date-most = omega arith }
+
+-- every day of the calendar has a month and a date
+lies-in : (d : ℤ) (k : ℕ) → InDays d → Least (λ j. ltZ d (firstOf j)) 0 1635 k → (firstOf (k - 1) ≤ℤ d) × (d <ℤ firstOf (k - 1 + 1))
+lies-in d k h l =
+    let p = l .later in
+    let e : firstOf (k - 1 + 1) ≡ firstOf k = ap firstOf (omega arith) in
+    let u : ltZ d (firstOf k) ≡ true = l .holds in
+    let start : firstOf (k - 1) ≤ℤ d =
+    elim (cases-lt 0 (k - 1)) [
+      | inl q ↦ let v : ltZ d (firstOf (k - 1)) ≡ false = l .first (k - 1) q (omega arith) in grind (arith, ints)
+      | inr q ↦ let z : firstOf (k - 1) ≡ firstOf 0 = ap firstOf (omega arith) in let b = begins in let f = h .from in omega (arith, ints)
+    ] in
+    (start, grind (arith, ints))
+
+dated : (d : ℤ) (o : Option ℕ) → InDays d → IsLeast (λ j. ltZ d (firstOf j)) 0 1635 o → (y : ℕ) × IsDate d y (monthBefore o) (dateBefore d o)
+dated d (Some k) h l =
+    let (a, b) = lies-in d k h l in
+    let n : pos (natAbs ((d -ℤ firstOf (k - 1)) +ℤ pos 1)) ≡ (d -ℤ firstOf (k - 1)) +ℤ pos 1 = omega (arith, ints) in
+    (yearAt (k - 1), found d (k - 1) (natAbs ((d -ℤ firstOf (k - 1)) +ℤ pos 1)) a b n)
+dated d None h l = let u : ltZ d (firstOf 1635) ≡ false = l 1635 (omega arith) (omega arith) in let e = ends in let t = h .to in absurd (grind (arith, ints))
+
+pub days-have-dates : DaysHaveDates
+unfolding nextMonth monthOf dateOf
+days-have-dates d h = dated d (nextMonth d) h (least-is (λ j. ltZ d (firstOf j)) 0 1635)

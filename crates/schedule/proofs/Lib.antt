@@ -6,3 +6,6 @@ pub mod Nearest
 pub mod Soon
 pub mod Locals
 pub mod Wholes
+pub mod Steadying
+pub mod Agree
+pub mod Both

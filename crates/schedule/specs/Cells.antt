@@ -1,5 +1,5 @@
 -- What the cells say: zone, summer time, the rows and the events that count. Assumes nothing.
-use Prim.Native.Nat.{ℕ, _+_, _*_}
+use Prim.Native.Nat.{ℕ, _+_}
 use mathlib.Core.Bool.{Bool, cond, _&&_}
 use mathlib.Core.List.{List, [], map}
 use lib.Dec.{eqb, leb, ltb}
@@ -8,7 +8,7 @@ use lib.ListN.{getD}
 use Rattle.std.specs.Iters.{counting}
 use Rattle.std.specs.declared.option.Option.{Option}
 use Rattle.std.specs.declared.option.Option.the-variants.{Some, None}
-use Rattle.layout.specs.Layout.{rowCell, eventCell}
+use Rattle.layout.specs.Layout.{rowCell, eventCell, eventCounts, startMinute}
 use Rattle.schedule.specs.Bits.{bitsIn}
 use Rattle.schedule.specs.Numbered.{numbered}
 use Rattle.schedule.specs.declared.row.Row.{Row}
@@ -46,13 +46,9 @@ countingRow row = cond (rowCounts row) (Some row) None
 abbrev pub rowAt : (ℕ → ℕ) → ℕ → Option Row
 rowAt cell r = countingRow (rowOf r (cell (rowCell r)) (cell (rowCell r + 1)) (cell (rowCell r + 2)) (cell (rowCell r + 3)))
 
--- hour and minute are in range, and the tariff is 1 to 255
-abbrev pub eventCounts : ℕ → ℕ → ℕ → Bool
-eventCounts hour minute tariff = ltb hour 24 && (ltb minute 60 && (ltb 0 tariff && leb tariff 255))
-
 abbrev pub countingEvent : ℕ → ℕ → ℕ → ℕ → Option Event
 countingEvent number hour minute tariff =
-    cond (eventCounts hour minute tariff) (Some (record { number = number; minute = hour * 60 + minute; tariff = tariff })) None
+    cond (eventCounts hour minute tariff) (Some (record { number = number; minute = startMinute hour minute; tariff = tariff })) None
 
 -- event e of plan p, where it counts
 abbrev pub eventAt : (ℕ → ℕ) → ℕ → ℕ → Option Event

@@ -12,3 +12,4 @@ pub mod Candidates
 pub mod Soonest
 pub mod Looks
 pub mod Moments
+pub mod Laws

@@ -16,6 +16,7 @@ use crate::rows::Rows;
 use crate::tables::Tables;
 use keeper::Counts;
 use layout::event_cell;
+use layout::event_counts;
 use layout::row_cell;
 
 // A cell beyond the list is 0.
@@ -78,10 +79,10 @@ fn rows_in(cells: &[u32]) -> Rows
 fn counting_event(number: u8, hour: u32, minute: u32, tariff: u32) -> Option<Event>
     ensures { λ r. ⌜ r ≡ countingEvent number hour minute tariff ⌝ }
 {
-    if hour < 24 && minute < 60 && tariff > 0 && tariff <= 255 {
+    if event_counts(hour, minute, tariff) {
         Some(Event {
             number,
-            minute: (hour * 60 + minute) as u16,
+            minute: (60 * hour + minute) as u16,
             tariff: tariff as u8,
         })
     } else {
