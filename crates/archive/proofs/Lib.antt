@@ -1,3 +1,4 @@
 pub mod Written
 pub mod Turns
 pub mod Agree
+pub mod Making

@@ -55,7 +55,7 @@ command-cells s command.Commit = commit-cells (s .cells) (s .edit)
 command-cells s command.Discard = refl
 
 -- a refused command writes nothing
-unmarked : (cs : List ℕ) (es : List Entry) (b : Bool) (r : Refusal) → cond b (Ok tt) (Err NotChecked) ≡ Err r → cond b (overwritten cs es) cs ≡ cs
+unmarked : (cs : List ℕ) (es : List Entry) (b : Bool) (r : Refusal) → _≡_ {A = Result (Unit {0}) Refusal} (cond b (Ok tt) (Err NotChecked)) (Err r) → cond b (overwritten cs es) cs ≡ cs
 unmarked cs es true r e = let y : _≡_ {A = ℕ} 0 1 = cc in absurd (omega arith)
 unmarked cs es false r e = refl
 

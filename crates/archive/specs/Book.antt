@@ -19,7 +19,7 @@ use Rattle.engine.specs.Looks.{lookAnswer}
 use Rattle.archive.specs.declared.calls.Call.{Call}
 use Rattle.archive.specs.declared.calls.Call.the-variants as call
 use Rattle.archive.specs.declared.calls.Answer.{Answer}
-use Rattle.archive.specs.declared.calls.Answer.the-variants as answer
+use Rattle.archive.specs.declared.calls.Answer.the-variants as says
 
 -- what a kind of clock accepts, and its span for a second
 pub record Kind : Type 0 where
@@ -32,26 +32,26 @@ kindOf first last spanFor = record { first = first; last = last; spanFor = spanF
 
 -- answers in words of the history
 abbrev pub done : Result (Unit {0}) Refusal → Answer
-done (Ok u) = answer.Done
-done (Err r) = answer.Refused r
+done (Ok u) = says.Done
+done (Err r) = says.Refused r
 
 abbrev pub told : Result ℕ Refusal → Answer
-told (Ok v) = answer.Cell v
-told (Err r) = answer.Refused r
+told (Ok v) = says.Cell v
+told (Err r) = says.Refused r
 
 abbrev pub seen : Result Look Refusal → Answer
-seen (Ok l) = answer.Seen l
-seen (Err r) = answer.Refused r
+seen (Ok l) = says.Seen l
+seen (Err r) = says.Refused r
 
 abbrev pub cameTo : Result (Unit {0}) Stopped → Answer
-cameTo (Ok u) = answer.Done
-cameTo (Err s) = answer.Stopped s
+cameTo (Ok u) = says.Done
+cameTo (Err s) = says.Stopped s
 
 -- what a call answers: a look by its definition, Set and Pass by the meaning of a clock, the others by the book's own state
 abbrev pub answer : Kind → Rule → Moment → State → Call → Answer
 answer k f m s call.Look = seen (lookAnswer f (s .cells) (m .0))
 answer k f m s (call.Set t) = done (setAnswer (k .first) (k .last) t)
-answer k f m s (call.Pass n) = answer.Done
+answer k f m s (call.Pass n) = says.Done
 answer k f m s (call.Get c) = told (getAnswer (s .cells) c)
 answer k f m s call.Open = done (engine.answer s command.Open)
 answer k f m s (call.Put c v) = done (engine.answer s (command.Put c v))

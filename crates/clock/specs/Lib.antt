@@ -3,4 +3,4 @@ pub mod Laws
 pub mod Moment
 pub mod Setting
 pub mod Time
-pub mod Vouch
+pub mod Vouching

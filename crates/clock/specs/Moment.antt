@@ -15,7 +15,7 @@ chipLast = 4102444799
 abbrev pub Within : ℕ → ℕ → ℕ → Type 0
 Within low n high = (low ≤ n) × (n ≤ high)
 
--- the days from 1 January 1970 to a date from then on: to the first of its month, and to the day from there
+-- the days from 1 January 1970 to a later date: those to the first of its month, and those from there on
 unfoldable pub daysTo : ℕ → ℕ → ℕ → ℕ
 daysTo year month day = natAbs (firstOf (placeOf year month)) + (day - 1)
 

@@ -12,7 +12,7 @@ use refusal::Refusal;
 mod making;
 mod moment;
 
-// Keeps a date and time of the years 2000 to 2099 in UTC, as the chips of that name do.
+// Keeps a date and time of 2000 to 2099 in UTC, or none.
 #[derive(Drop)]
 pub struct CalendarChip {
     moment: Option<Moment>,

@@ -1,6 +1,6 @@
 ghost use mathlib.Core.Path.{_≡_};
 ghost use Prim.Native.Nat.{min};
-ghost use Rattle.clock.specs.Vouch.{layerSpan, layerTime, vouchedSeconds};
+ghost use Rattle.clock.specs.Vouching.{layerSpan, layerTime, vouchedSeconds};
 use crate::time::Clock;
 use crate::time::SettableClock;
 use refusal::Refusal;

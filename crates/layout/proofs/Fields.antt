@@ -29,6 +29,21 @@ field-fits Tariff v h = omega (arith, leb-true v _ h)
 pub range-fits : (c v : ℕ) → inRange c v ≡ true → v < 256 ^ width c
 range-fits c v h = field-fits (fieldOf c) v h
 
+field-least : (f : Field) → 1 ≤ widthOf f
+field-least Zone = omega arith
+field-least Summer = omega arith
+field-least Months = omega arith
+field-least Weekdays = omega arith
+field-least Dates = omega arith
+field-least Plan = omega arith
+field-least Hour = omega arith
+field-least Minute = omega arith
+field-least Tariff = omega arith
+
+-- each cell has a byte
+pub width-least : (c : ℕ) → 1 ≤ width c
+width-least c = field-least (fieldOf c)
+
 field-most : (f : Field) → widthOf f ≤ 4
 field-most Zone = omega arith
 field-most Summer = omega arith

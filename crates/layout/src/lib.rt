@@ -17,6 +17,3 @@ pub use field::Field;
 pub use field::LARGEST_TARIFF;
 pub use places::IMAGE_BYTES;
 pub use places::place;
-
-#[cfg(test)]
-mod tests;

@@ -1,8 +1,8 @@
 -- A number and its bytes, both ways.
-use Prim.Native.Nat.{ℕ, zero, suc, _+_, _*_, _/_, _%_, _^_, _≤_, _<_}
+use Prim.Native.Nat.{ℕ, zero, suc, _+_, _-_, _*_, _/_, _%_, _^_, _≤_, _<_}
 use Rattle.std.proofs.shelf.Bits.{div-below}
 use Rattle.std.proofs.shelf.Digits.{number-more, number-push}
-use Rattle.std.proofs.shelf.Lists.{length-push, length-take-le, take-all, take-more}
+use Rattle.std.proofs.shelf.Lists.{append-assoc, append-nil, length-push, length-take-le, take-all, take-more}
 use Rattle.std.specs.shelf.Digits.{number}
 use Rattle.store.specs.Image.{Bytes, bytesOf}
 use Rattle.store.specs.Laws.{below-take, wider}
@@ -51,3 +51,16 @@ read-more bs i v b h e s n l =
     let m = number-more 256 bs i h in
     let p : 256 ^ (i + 1) ≡ 256 ^ i * 256 = ap (λ (x : ℕ). 256 ^ x) (add-one i) ∙ pow-suc 256 i in
     (omega arith, omega arith)
+
+-- a number written behind some bytes, its last byte behind the others
+pub push-last : (n v : ℕ) (xs ys zs : List ℕ) → 0 < n → ys ≡ xs ++ bytesOf (n - 1) (v / 256) → zs ≡ ys ++ (v % 256 ∷ []) → zs ≡ xs ++ bytesOf n v
+unfolding bytesOf
+push-last zero v xs ys zs h p q = absurd (omega arith)
+push-last (suc n) v xs ys zs h p q =
+    let e : suc n - 1 ≡ n = omega arith in
+    q ∙ ap (λ (x : List ℕ). x ++ (v % 256 ∷ [])) (p ∙ ap (λ (k : ℕ). xs ++ bytesOf k (v / 256)) e) ∙ append-assoc xs (bytesOf n (v / 256)) (v % 256 ∷ [])
+
+pub push-none : (n v : ℕ) (xs : List ℕ) → n ≤ 0 → xs ≡ xs ++ bytesOf n v
+unfolding bytesOf
+push-none zero v xs h = sym (append-nil xs)
+push-none (suc n) v xs h = absurd (omega arith)

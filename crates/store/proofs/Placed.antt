@@ -1,12 +1,13 @@
 -- The image at the layout's widths: each cell at the layout's place.
 use Prim.Native.Nat.{ℕ, zero, suc, _+_, _-_, _/_, _%_, _^_, _≤_, _<_}
+use Rattle.layout.proofs.Fields.{width-least}
 use Rattle.layout.specs.Layout.{cellCount, placeOf, width}
-use Rattle.std.proofs.shelf.Lists.{append-assoc, drop-all, drop-drop, drop-set, length-drop, length-set, length-take-le, take-append-drop, take-set-le}
+use Rattle.std.proofs.shelf.Lists.{append-assoc, append-nil, drop-all, drop-drop, drop-set, length-drop, length-set, length-take-le, take-append-drop, take-more, take-set-le}
 use Rattle.std.proofs.shelf.Tests.{cases-lt, le-leb, le-ltb, lt-leb, lt-ltb}
 use Rattle.std.specs.shelf.Digits.{number}
 use Rattle.store.proofs.Digits.{length-bytesOf, number-bytesOf}
-use Rattle.store.proofs.Spans.{back as back-at, count, fits, inside, keeps, read, span-more, spanFrom, whole as whole-at, write}
-use Rattle.store.specs.Image.{Bytes, bytesOf, Ended, Fitting, imageCells, imageOf, imageRest}
+use Rattle.store.proofs.Spans.{back as back-at, count, encode-push, fits, inside, keeps, read, span-more, spanFrom, whole as whole-at, write}
+use Rattle.store.specs.Image.{Bytes, bytesOf, Ended, Faithful, Fitting, imageCells, imageOf, imageRest}
 use Rattle.store.specs.Laws.{image-few}
 use lib.Dec.{leb, ltb}
 use lib.ListN.{drop, getD, length, set, take}
@@ -119,12 +120,41 @@ write-end at (suc k) left bs h = absurd (omega arith)
 pub same-count : (bs : List ℕ) (i b : ℕ) → length (imageCells (set bs i b)) ≡ length (imageCells bs)
 same-count bs i b = count width cellCount 0 (set bs i b) bs (length-set bs i b)
 
+-- no byte holds no whole cell
+alone : {vs : List ℕ} → length vs ≤ cellCount → Ended vs []
+alone {vs} l = record {
+  few = l;
+  ended = inr (width-least (length vs));
+}
+
 -- both ways round
 pub whole : (bs : List ℕ) → Bytes bs → imageOf (imageCells bs) ++ imageRest bs ≡ bs
 whole bs h = whole-at width cellCount 0 bs h
 
-pub back-again : (vs r : List ℕ) → Fitting vs → Ended vs r → (imageCells (imageOf vs ++ r) ≡ vs) × (imageRest (imageOf vs ++ r) ≡ r)
+back-again : (vs r : List ℕ) → Fitting vs → Ended vs r → (imageCells (imageOf vs ++ r) ≡ vs) × (imageRest (imageOf vs ++ r) ≡ r)
 back-again vs r f e =
     let shift : (i : ℕ) → i ≡ 0 + i = λ i. sym (zero-add i) in
     back-at width cellCount 0 vs r (λ i. subst (λ (k : ℕ). getD vs i 0 < 256 ^ width k) (shift i) (f i)) (e .few)
     (⊎-elim (λ p. inl p) (λ q. inr (subst (λ (m : ℕ). length r < width m) (shift (length vs)) q)) (e .ended))
+
+pub faithful : (vs : List ℕ) → Faithful vs
+faithful vs = record {
+  alone = λ f l. ap imageCells (sym (append-nil (imageOf vs))) ∙ back-again vs [] f (alone l) .0;
+  before = λ r f e. back-again vs r f e;
+}
+
+-- one more cell encoded
+encode-more : (vs : List ℕ) (i : ℕ) → i < length vs → imageOf (take (i + 1) vs) ≡ imageOf (take i vs) ++ bytesOf (width i) (getD vs i 0)
+encode-more vs i h =
+    let l : 0 + length (take i vs) ≡ i = zero-add _ ∙ length-take-le i vs (omega arith) in
+    ap imageOf (take-more vs i 0 h)
+    ∙ encode-push width 0 (take i vs) (getD vs i 0)
+    ∙ ap (λ (n : ℕ). imageOf (take i vs) ++ bytesOf (width n) (getD vs i 0)) l
+
+pub encode-turn : (vs xs ys : List ℕ) (i n v : ℕ) → i < length vs → xs ≡ imageOf (take i vs) → n ≡ width i → v ≡ getD vs i 0 → ys ≡ xs ++ bytesOf n v
+    → ys ≡ imageOf (take (i + 1) vs)
+encode-turn vs xs ys i n v h p w e q = let more = encode-more vs i h in q ∙ rw (p, w, e) (sym more)
+
+-- one more cell decoded
+pub decode-turn : (vs xs ys : List ℕ) (i v : ℕ) → i < length vs → xs ≡ take i vs → v ≡ getD vs i 0 → ys ≡ xs ++ v ∷ [] → ys ≡ take (i + 1) vs
+decode-turn vs xs ys i v h p e q = let more = take-more vs i 0 h in q ∙ rw (p, e) (sym more)

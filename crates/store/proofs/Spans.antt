@@ -1,6 +1,6 @@
 -- Cells at any widths w: which fit, what one holds, what a write to one changes, and both ways round.
 use Prim.Native.Nat.{ℕ, zero, suc, _+_, _^_, _≤_, _<_}
-use Rattle.std.proofs.shelf.Lists.{append-assoc, drop-append-le, drop-at, length-append, length-drop, length-take-le, take-append-drop, take-append-le, take-at}
+use Rattle.std.proofs.shelf.Lists.{append-assoc, append-nil, drop-append-le, drop-at, length-append, length-drop, length-take-le, take-append-drop, take-append-le, take-at}
 use Rattle.std.proofs.shelf.Tests.{cases-lt, cond-false, cond-true, le-leb, lt-leb}
 use Rattle.std.specs.shelf.Digits.{number}
 use Rattle.store.proofs.Digits.{bytesOf-number, length-bytesOf, number-bytesOf}
@@ -148,6 +148,17 @@ module _ (w : ℕ → ℕ) where
       let r = keeps i n (suc c) m (drop (w c) a) x y b (omega arith) (omega arith) (omega arith) k j in
       let f1 = f .1 in let g1 = f′ .1 in
       rw (s, t, f1, g1, r)
+
+  -- one more cell encoded
+  pub encode-push : (c : ℕ) (vs : List ℕ) (v : ℕ) → encodeFrom w c (vs ++ v ∷ []) ≡ encodeFrom w c vs ++ bytesOf (w (c + length vs)) v
+  unfolding encodeFrom
+  encode-push c [] v = append-nil (bytesOf (w c) v) ∙ ap (λ (n : ℕ). bytesOf (w n) v) (sym (add-zero c))
+  encode-push c (x ∷ xs) v =
+      let h = encode-push (suc c) xs v in
+      let q : suc c + length xs ≡ c + suc (length xs) = omega arith in
+      ap (λ (bs : List ℕ). bytesOf (w c) x ++ bs) h
+      ∙ sym (append-assoc (bytesOf (w c) x) (encodeFrom w (suc c) xs) (bytesOf (w (suc c + length xs)) v))
+      ∙ ap (λ (n : ℕ). (bytesOf (w c) x ++ encodeFrom w (suc c) xs) ++ bytesOf (w n) v) q
 
   -- bytes to cells to bytes
   pub whole : (n c : ℕ) (bs : List ℕ) → Bytes bs → encodeFrom w c (cellsFrom w n c bs) ++ restFrom w n c bs ≡ bs

@@ -1,14 +1,17 @@
 -- Puts one after another: a turn of the loop, and its end.
-use Prim.Native.Nat.{ℕ, _+_, _<_, _≤_}
+use Prim.Native.Nat.{ℕ, _+_, _^_, _<_, _≤_}
+use Rattle.layout.specs.Layout.{inRange}
 use Rattle.refusal.specs.declared.refusal.Refusal.{Refusal}
 use Rattle.std.proofs.shelf.Lists.{drop-all, drop-more}
 use Rattle.std.specs.Results.{andOther}
 use Rattle.std.specs.declared.result.Result.the-variants.{Ok, Err}
 use Rattle.std.specs.declared.result.Result.{Result}
+use Rattle.store.proofs.Puts.{put-fits}
 use Rattle.store.specs.Cells.{putAnswer, putCells}
-use Rattle.store.specs.Entries.{putsAnswer, putsCells}
+use Rattle.store.specs.Entries.{InRange, overwritten, putsAnswer, putsCells}
 use Rattle.store.specs.declared.entry.Entry.{Entry}
-use lib.ListN.{drop, getD, length}
+use lib.ListN.{drop, getD, length, set}
+use mathlib.Core.Bool.{true}
 use mathlib.Core.List.{List, [], _∷_}
 use mathlib.Core.Path.{_≡_, ap, refl, sym, _∙_}
 
@@ -52,3 +55,10 @@ module _ (w : ℕ → ℕ) (cs : List ℕ) (es : List Entry) (i : ℕ) (h : leng
 
   pub answer-end : (o : Outcome) → o ≡ andOther o (putsAnswer cs w (drop i es))
   answer-end o = sym (and-ok o) ∙ sym (ap (λ (x : List Entry). andOther o (putsAnswer cs w x)) (drop-all i es h))
+
+-- entries in range fit, so each is written, or has no cell
+pub in-range : (w : ℕ → ℕ) → ((c v : ℕ) → inRange c v ≡ true → v < 256 ^ w c) → (cs : List ℕ) (es : List Entry) → InRange es → putsCells cs w es ≡ overwritten cs es
+in-range w fits cs [] h = refl
+in-range w fits cs (e ∷ es) h =
+    ap (λ (x : List ℕ). putsCells x w es) (put-fits cs w (e .cell) (e .value) (fits (e .cell) (e .value) (h .0)))
+    ∙ in-range w fits (set cs (e .cell) (e .value)) es (h .1)

@@ -27,10 +27,6 @@ putCells cs w c v = cond (ltb c (length cs)) (cond (ltb v (256 ^ w c)) (set cs c
 pub record StoreLaws {S : Type 0} (cells : S → List ℕ) (widths : S → ℕ → ℕ) : Type 0 where
   -- at most the cells of the layout
   pub few : (s : S) → length (cells s) ≤ cellCount
-  -- each a 32-bit number
-  pub word : (s : S) (c : ℕ) → getD (cells s) c 0 < 2 ^ 32
-  -- each within its width
-  pub held : (s : S) (c : ℕ) → getD (cells s) c 0 < 256 ^ widths s c
   -- no width less than the layout's
   pub wide : (s : S) (c : ℕ) → width c ≤ widths s c
   -- so that each value in range fits

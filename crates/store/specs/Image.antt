@@ -53,3 +53,8 @@ Fitting vs = (c : ℕ) → getD vs c 0 < 256 ^ width c
 pub record Ended (vs rest : List ℕ) : Type 0 where
   pub few : length vs ≤ cellCount
   pub ended : (length vs ≡ cellCount) ⊎ (length rest < width (length vs))
+
+-- cells that fit are decoded from their image as they were, alone and before bytes that hold no further whole cell
+pub record Faithful (vs : List ℕ) : Type 0 where
+  pub alone : Fitting vs → length vs ≤ cellCount → imageCells (imageOf vs) ≡ vs
+  pub before : (rest : List ℕ) → Fitting vs → Ended vs rest → (imageCells (imageOf vs ++ rest) ≡ vs) × (imageRest (imageOf vs ++ rest) ≡ rest)

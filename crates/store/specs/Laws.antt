@@ -37,31 +37,6 @@ below-take b n xs z h k =
 pub below-drop : (b n : ℕ) (xs : List ℕ) → ((k : ℕ) → getD xs k 0 < b) → (k : ℕ) → getD (drop n xs) k 0 < b
 below-drop b n xs h k = let e = getD-drop n xs k 0 in let f = h (n + k) in omega arith
 
-under : (bs : List ℕ) → Bytes bs → Under 256 bs
-under [] h = tt
-under (b ∷ bs) h = (h 0, under bs (λ k. h (suc k)))
-
-number-held : (n : ℕ) (bs : List ℕ) → Bytes bs → n ≤ length bs → number 256 (take n bs) < 256 ^ n
-number-held n bs h l =
-    subst (λ (k : ℕ). number 256 (take n bs) < 256 ^ k) (length-take-le n bs l)
-    (number-lt 256 (take n bs) (under (take n bs) (below-take 256 n bs (omega arith) h)))
-
--- a cell holds no more than its bytes
-cell-held : (w : ℕ → ℕ) (n c : ℕ) (bs : List ℕ) → Bytes bs → (i : ℕ) → getD (cellsFrom w n c bs) i 0 < 256 ^ w (c + i)
-unfolding cellsFrom
-cell-held w zero c bs h i = wider 0 (w (c + i)) (omega arith)
-cell-held w (suc n) c bs h zero =
-    let e : w (c + 0) ≡ w c = ap w (add-zero c) in
-    let some = wider 0 (w c) (omega arith) in
-    subst (λ (k : ℕ). getD (cellsFrom w (suc n) c bs) 0 0 < 256 ^ k) (sym e)
-    (cond-both (leb (w c) (length bs)) _ [] (λ x. getD x 0 0 < 256 ^ w c) (λ yes. number-held (w c) bs h (leb-true _ _ yes)) (λ _. some))
-cell-held w (suc n) c bs h (suc i) =
-    let e : w (suc c + i) ≡ w (c + suc i) = ap w (omega arith) in
-    let some = wider 0 (w (suc c + i)) (omega arith) in
-    let next = cell-held w n (suc c) (drop (w c) bs) (below-drop 256 (w c) bs h) i in
-    subst (λ (k : ℕ). getD (cellsFrom w (suc n) c bs) (suc i) 0 < 256 ^ k) e
-    (cond-both (leb (w c) (length bs)) _ [] (λ x. getD x (suc i) 0 < 256 ^ w (suc c + i)) (λ _. next) (λ _. some))
-
 -- at most n cells
 few-cells : (w : ℕ → ℕ) (n c : ℕ) (bs : List ℕ) → length (cellsFrom w n c bs) ≤ n
 unfolding cellsFrom
@@ -70,26 +45,20 @@ few-cells w (suc n) c bs =
     let h = few-cells w n (suc c) (drop (w c) bs) in
     cond-both (leb (w c) (length bs)) (number 256 (take (w c) bs) ∷ cellsFrom w n (suc c) (drop (w c) bs)) [] (λ x. length x ≤ suc n) (λ _. omega arith) (λ _. omega arith)
 
-image-held : (bs : List ℕ) → Bytes bs → (c : ℕ) → getD (imageCells bs) c 0 < 256 ^ width c
-image-held bs h c = subst (λ (k : ℕ). getD (imageCells bs) c 0 < 256 ^ width k) (zero-add c) (cell-held width cellCount 0 bs h c)
-
 pub image-few : (bs : List ℕ) → length (imageCells bs) ≤ cellCount
 image-few bs = few-cells width cellCount 0 bs
 
-pub image-laws : {S : Type 0} (bytes : S → List ℕ) → ((s : S) → Bytes (bytes s)) → StoreLaws (λ s. imageCells (bytes s)) (λ s. width)
-image-laws bytes h = record {
+pub image-laws : {S : Type 0} (bytes : S → List ℕ) → StoreLaws (λ s. imageCells (bytes s)) (λ s. width)
+image-laws bytes = record {
   few = λ s. image-few (bytes s);
-  word = λ s c. let l = image-held (bytes s) (h s) c in let p = wider (width c) 4 (width-most c) in omega arith;
-  held = λ s. image-held (bytes s) (h s);
   wide = λ s c. omega arith;
   range = λ s c v. range-held c v (width c) (omega arith);
 }
 
-pub word-laws : {S : Type 0} (words : S → List ℕ) → ((s : S) → Words (words s)) → StoreLaws (λ s. wordCells (words s)) (λ s. wordWidth)
-word-laws words h = record {
+pub word-laws : {S : Type 0} (words : S → List ℕ) → StoreLaws (λ s. wordCells (words s)) (λ s. wordWidth)
+unfolding wordCells
+word-laws words = record {
   few = λ s. omega (arith, length-take cellCount (words s));
-  word = λ s. below-take (2 ^ 32) cellCount (words s) (omega arith) (h s);
-  held = λ s. below-take (2 ^ 32) cellCount (words s) (omega arith) (h s);
   wide = λ s. width-most;
   range = λ s c v. range-held c v 4 (width-most c);
 }

@@ -5,11 +5,11 @@ use lib.ListN.{drop, getD, take}
 use mathlib.Core.List.{List}
 
 -- as many as fit, at most the cells of the layout
-abbrev pub wordCells : List ℕ → List ℕ
+unfoldable pub wordCells : List ℕ → List ℕ
 wordCells ws = take cellCount ws
 
 -- the words past the last cell
-abbrev pub wordRest : List ℕ → List ℕ
+unfoldable pub wordRest : List ℕ → List ℕ
 wordRest ws = drop cellCount ws
 
 -- a word has four bytes

@@ -3,11 +3,14 @@ ghost use Rattle.layout.specs.Layout.{width as cellWidth};
 ghost use Rattle.store.specs.Image.{Bytes, imageCells, imageOf, imageRest};
 ghost use Rattle.store.specs.Laws.{image-laws};
 ghost use denote.Ref.{name, now};
+ghost use lib.Dec.{ltb};
 ghost use lib.ListN.{length, getD, set};
 ghost use mathlib.Core.List.{[], _∷_, _++_};
 ghost use mathlib.Core.Path.{_≡_};
 use crate::bytes::count_cells;
+use crate::bytes::has_cell;
 use crate::bytes::holds;
+use crate::bytes::known;
 use crate::bytes::read_cell;
 use crate::store::Store;
 use layout::place;
@@ -18,33 +21,46 @@ use refusal::Refusal;
 #[derive(Drop)]
 pub struct ImageStore<'a> {
     bytes: &'a mut [u8],
-    size: u32,
-    ghost each: { Bytes (now bytes) },
-    ghost sized: { size ≡ length (imageCells (now bytes)) },
 }
 
 impl<'a> ImageStore<'a> {
     pub fn new(bytes: &'a mut [u8]) -> ImageStore<'a>
         ensures answer { λ r. ⌜ now (r .bytes) ≡ now (bytes .entry) ⌝ }
+        ensures each { λ _. ⌜ Bytes (now (bytes .entry)) ⌝ }
         ensures home { λ r. ⌜ name (r .bytes) ≡ name (bytes .entry) ⌝ }
     {
-        let size = count_cells(bytes);
-        ImageStore { bytes, size }
+        known(bytes);
+        ImageStore { bytes }
     }
 
     // Hands the memory back: the cells, encoded, and what lies past them.
     pub fn into_bytes(self) -> &'a mut [u8]
-        ensures answer { λ r. ⌜ now r ≡ imageOf (imageCells (now (self .entry .bytes))) ++ imageRest (now (self .entry .bytes)) ⌝ }
+        ensures same { λ r. ⌜ now r ≡ now (self .entry .bytes) ⌝ }
+        ensures memory { λ r. ⌜ now r ≡ imageOf (imageCells (now (self .entry .bytes))) ++ imageRest (now (self .entry .bytes)) ⌝ }
         ensures home { λ r. ⌜ name r ≡ name (self .entry .bytes) ⌝ }
     {
+        self.known();
         self.taken_apart()
+    }
+
+    // Whether the whole of a cell is there.
+    fn has(&self, c: u32) -> bool
+        ensures { λ r. ⌜ r ≡ ltb c (length (imageCells (now (now (self .entry) .bytes)))) ⌝ }
+    {
+        has_cell(self.bytes, c)
+    }
+
+    fn known(&self)
+        ensures { λ _. ⌜ Bytes (now (now (self .entry) .bytes)) ⌝ }
+    {
+        known(self.bytes);
     }
 
     fn taken_apart(self) -> &'a mut [u8]
         ensures answer { λ r. ⌜ now r ≡ now (self .entry .bytes) ⌝ }
         ensures home { λ r. ⌜ name r ≡ name (self .entry .bytes) ⌝ }
     {
-        let ImageStore { bytes, size: _ } = self;
+        let ImageStore { bytes } = self;
         bytes
     }
 
@@ -76,21 +92,21 @@ pub impl<'a> Store for ImageStore<'a> as ImageStoreStore {
 
     ghost home = { λ s. name (s .bytes) ∷ [] };
 
-    ghost laws = { image-laws (λ s. now (s .bytes)) (λ s. s .each) };
+    ghost laws = { image-laws (λ s. now (s .bytes)) };
 
     fn size(&self) -> u32 {
-        self.size
+        count_cells(self.bytes)
     }
 
     fn get(&self, c: u32) -> Result<u32, Refusal> {
-        if c >= self.size {
+        if !self.has(c) {
             return Err(Refusal::NoCell);
         }
         Ok(read_cell(self.bytes, c))
     }
 
     fn put(&mut self, c: u32, v: u32) -> Result<(), Refusal> {
-        if c >= self.size {
+        if !self.has(c) {
             return Err(Refusal::NoCell);
         }
         if !holds(c, v) {

@@ -19,6 +19,7 @@ pub trait Store {
     // Where the handed-over memory lies: it stays the same memory.
     ghost home: { Self → List ℕ };
 
+    // What every store keeps of these.
     ghost laws: { StoreLaws cells width };
 
     // The number of cells.

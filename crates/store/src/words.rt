@@ -1,6 +1,6 @@
 ghost use Prim.Native.Nat.{ℕ, _<_};
 ghost use Rattle.store.specs.Laws.{word-laws};
-ghost use Rattle.store.specs.Words.{wordCells, wordRest, Words, wordWidth};
+ghost use Rattle.store.specs.Words.{wordCells, wordRest, wordWidth};
 ghost use denote.Ref.{name, now};
 ghost use lib.ListN.{length, getD, set};
 ghost use mathlib.Core.List.{[], _∷_, _++_};
@@ -13,9 +13,6 @@ use refusal::Refusal;
 #[derive(Drop)]
 pub struct WordStore<'a> {
     words: &'a mut [u32],
-    size: u32,
-    ghost each: { Words (now words) },
-    ghost sized: { size ≡ length (wordCells (now words)) },
 }
 
 impl<'a> WordStore<'a> {
@@ -23,13 +20,13 @@ impl<'a> WordStore<'a> {
         ensures answer { λ r. ⌜ now (r .words) ≡ now (words .entry) ⌝ }
         ensures home { λ r. ⌜ name (r .words) ≡ name (words .entry) ⌝ }
     {
-        let size = count_words(words);
-        WordStore { words, size }
+        WordStore { words }
     }
 
     // Hands the memory back: the cells, and what lies past them.
     pub fn into_words(self) -> &'a mut [u32]
-        ensures answer { λ r. ⌜ now r ≡ wordCells (now (self .entry .words)) ++ wordRest (now (self .entry .words)) ⌝ }
+        ensures same { λ r. ⌜ now r ≡ now (self .entry .words) ⌝ }
+        ensures memory { λ r. ⌜ now r ≡ wordCells (now (self .entry .words)) ++ wordRest (now (self .entry .words)) ⌝ }
         ensures home { λ r. ⌜ name r ≡ name (self .entry .words) ⌝ }
     {
         self.taken_apart()
@@ -39,7 +36,7 @@ impl<'a> WordStore<'a> {
         ensures answer { λ r. ⌜ now r ≡ now (self .entry .words) ⌝ }
         ensures home { λ r. ⌜ name r ≡ name (self .entry .words) ⌝ }
     {
-        let WordStore { words, size: _ } = self;
+        let WordStore { words } = self;
         words
     }
 
@@ -62,14 +59,14 @@ pub impl<'a> Store for WordStore<'a> as WordStoreStore {
 
     ghost home = { λ s. name (s .words) ∷ [] };
 
-    ghost laws = { word-laws (λ s. now (s .words)) (λ s. s .each) };
+    ghost laws = { word-laws (λ s. now (s .words)) };
 
     fn size(&self) -> u32 {
-        self.size
+        count_words(self.words)
     }
 
     fn get(&self, c: u32) -> Result<u32, Refusal> {
-        if c >= self.size {
+        if c >= self.size() {
             return Err(Refusal::NoCell);
         }
         Ok(read_word(self.words, c))
@@ -77,7 +74,7 @@ pub impl<'a> Store for WordStore<'a> as WordStoreStore {
 
     // A word holds every value, so none is refused.
     fn put(&mut self, c: u32, v: u32) -> Result<(), Refusal> {
-        if c >= self.size {
+        if c >= self.size() {
             return Err(Refusal::NoCell);
         }
         self.write(c, v);
@@ -86,11 +83,9 @@ pub impl<'a> Store for WordStore<'a> as WordStoreStore {
 }
 
 // The number of cells.
-fn count_words(words: &[u32]) -> u32
-    ensures answer { λ r. ⌜ r ≡ length (wordCells (now (words .entry))) ⌝ }
-    ensures each { λ _. ⌜ Words (now (words .entry)) ⌝ }
+pub fn count_words(words: &[u32]) -> u32
+    ensures { λ r. ⌜ r ≡ length (wordCells (now (words .entry))) ⌝ }
 {
-    passed_on(words);
     if words.len() < CELLS as usize {
         words.len() as u32
     } else {
@@ -98,12 +93,9 @@ fn count_words(words: &[u32]) -> u32
     }
 }
 
-fn read_word(words: &[u32], c: u32) -> u32
+pub fn read_word(words: &[u32], c: u32) -> u32
     requires { ⌜ c < length (wordCells (now words)) ⌝ }
     ensures { λ r. ⌜ r ≡ getD (wordCells (now (words .entry))) c 0 ⌝ }
 {
     words[c as usize]
 }
-
-// The check knows of words that are passed on that they have 32 bits.
-fn passed_on(_words: &[u32]) {}

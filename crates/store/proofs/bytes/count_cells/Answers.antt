@@ -15,5 +15,7 @@ loop-n-less c =
     let f = image-few (c .args .bytes .now) in
     let t = ltb-true (c .loop-n .n) (length (imageCells (c .args .bytes .now))) (sym (c .loop-n-test .ensures tt)) in omega arith
 
-pub returns : need.returns
-returns c = record { answer = search needs; each = λ k. c .typed .bytes k .fits }
+pub returns-then-has-cell : need.returns-then-has-cell
+returns-then-has-cell c =
+    let f = image-few (c .args .bytes .now) in
+    let t = ltb-true 705 (length (imageCells (c .args .bytes .now))) (sym (c .if-has-cell .ensures tt)) in omega arith

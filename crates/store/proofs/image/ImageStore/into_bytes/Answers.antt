@@ -4,6 +4,7 @@ use mathlib.Core.Path.{sym, _∙_}
 
 pub returns : need.returns
 returns c = record {
-  answer = c .taken-apart .ensures .answer ∙ sym (whole (c .args .self .bytes .now) (c .args .self .each));
+  same = c .taken-apart .ensures .answer;
+  memory = c .taken-apart .ensures .answer ∙ sym (whole (c .args .self .bytes .now) (c .known .ensures));
   home = c .taken-apart .ensures .home;
 }

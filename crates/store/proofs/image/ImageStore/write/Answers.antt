@@ -19,13 +19,6 @@ loop-i-again c =
     let l = length-set bs (at + (i - 1)) (c .loop-i .left % 256) in
     (omega arith, omega arith, c .loop-i .inv .2, write-more at i (c .loop-i .left) bs (c .loop-i-test .taken) (c .loop-i .inv .0) ∙ c .loop-i .inv .3)
 
-pub ghost-self : need.ghost-self
-ghost-self c =
-    let bs = c .loop-i .self .bytes .now in
-    let at = c .place-at .result + (c .loop-i .i - 1) in
-    let b = c .loop-i .left % 256 in
-    (below-set 256 bs at b (c .loop-i .self .each) (omega arith) (omega arith), (c .loop-i .self .sized ∙ sym (same-count bs at b), tt))
-
 pub returns : need.returns
 returns c =
     let bs = c .args .self .now .bytes .now in

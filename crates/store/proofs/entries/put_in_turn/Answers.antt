@@ -1,6 +1,6 @@
 use Prim.Native.Nat.{_<_}
-use Rattle.store.proofs.Turns.{answer-end, answer-turn, cells-end, cells-turn}
-use Rattle.store.proofs.entries.put_each.Needs as need
+use Rattle.store.proofs.Turns.{answer-end, answer-turn, cells-end, cells-turn, in-range}
+use Rattle.store.proofs.entries.put_in_turn.Needs as need
 use lib.ListN.{length}
 use mathlib.Core.Path.{_∙_}
 use native.Mathlib.Omega.{arith}
@@ -25,9 +25,11 @@ returns g c =
     let i = c .loop-entry .inv in
     let w = g .S·Store .width (c .args .store .now) in
     let cs = g .S·Store .cells (c .loop-entry .store) in
+    let after = cells-end w cs (c .args .entries .now) (c .loop-entry .entry-index) (omega arith) ∙ i .3 in
     record {
       answer = answer-end w cs (c .args .entries .now) (c .loop-entry .entry-index) (omega arith) (c .loop-entry .outcome) ∙ i .4;
-      after = cells-end w cs (c .args .entries .now) (c .loop-entry .entry-index) (omega arith) ∙ i .3;
+      after = after;
+      range = λ h. after ∙ in-range w (g .S·Store .laws .range (c .args .store .now)) _ (c .args .entries .now) h;
       same = i .0;
       memory = i .1;
       home = i .2;

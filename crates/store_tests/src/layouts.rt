@@ -1,10 +1,10 @@
-use crate::CELLS;
-use crate::IMAGE_BYTES;
-use crate::event_cell;
-use crate::in_range;
-use crate::place;
-use crate::row_cell;
-use crate::width;
+use layout::CELLS;
+use layout::IMAGE_BYTES;
+use layout::event_cell;
+use layout::in_range;
+use layout::place;
+use layout::row_cell;
+use layout::width;
 use std::test::*;
 
 #[test]

@@ -1,5 +1,5 @@
 use Rattle.std.specs.Results.{andOther}
-use Rattle.store.proofs.entries.put_each.Given as given
+use Rattle.store.proofs.entries.put_in_turn.Given as given
 use Rattle.store.specs.Entries.{putsAnswer, putsCells}
 use lib.ListN.{drop}
 use mathlib.Core.Path.{_≡_}
