@@ -1,25 +1,43 @@
-// An image and seconds in, a line for each second out.
+// An image and seconds in, a line for each look out.
+mod looks;
 mod seconds;
-mod zone;
 
+use looks::look_at;
+use looks::tables_in;
+use schedule::Look;
 use seconds::second_at;
 use std::io;
 use std::io::Write;
-use zone::Zone;
 
 // The bytes of a whole image.
 const IMAGE_BYTES: usize = 837;
 
-// The line `short` for a cut image; else a line for each whole second behind it.
-pub fn write_lines<W: Write>(input: &[u8], out: &mut W) -> io::Result<()> {
+// The line `short` for a cut image; else a line for each whole second behind it, under the European law.
+pub fn write_lines<W: Write>(input: &mut [u8], out: &mut W) -> io::Result<()> {
     if input.len() < IMAGE_BYTES {
         return writeln!(out, "short");
     }
-    let (image, seconds) = input.split_at(IMAGE_BYTES);
-    let zone = Zone::new(image);
-    for i in 0..seconds.len() / 4 {
-        let local = zone.local_time(second_at(seconds, i));
-        writeln!(out, "{local}")?;
+    let (image, seconds) = input.split_at_mut(IMAGE_BYTES);
+    let tables = tables_in(image);
+    for place in 0..seconds.len() / 4 {
+        let look = look_at(&tables, second_at(seconds, place));
+        write_look(&look, out)?;
     }
     Ok(())
+}
+
+// The fields in sequence, blanks between.
+fn write_look<W: Write>(look: &Look, out: &mut W) -> io::Result<()> {
+    let local = look.local_time;
+    let row = look.row;
+    let plan = look.plan;
+    let event_plan = look.event_plan;
+    let event = look.event;
+    let back = look.days_back;
+    let tariff = look.tariff;
+    let last = look.last_second;
+    writeln!(
+        out,
+        "{local} {row} {plan} {event_plan} {event} {back} {tariff} {last}"
+    )
 }

@@ -9,6 +9,6 @@ fn main(rt: LibcRuntime) -> io::Result<()> {
     let mut input = Vec::new(rt.alloc());
     rt.stdin().read_to_end(&mut input)?;
     let mut out = BufWriter::new(rt.stdout());
-    write_lines(input.as_slice(), &mut out)?;
+    write_lines(input.as_mut_slice(), &mut out)?;
     out.flush()
 }

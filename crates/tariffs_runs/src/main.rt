@@ -15,9 +15,10 @@ fn main(rt: LibcRuntime) -> io::Result<()> {
         let Some(run) = run_at(runs, at) else {
             break;
         };
-        writeln!(out, "run {number}")?;
-        write_lines(run, &mut out)?;
         at = at.saturating_add(4).saturating_add(run.len());
+        let mut copy = run.to_vec(rt.alloc())?;
+        writeln!(out, "run {number}")?;
+        write_lines(copy.as_mut_slice(), &mut out)?;
     }
     out.flush()
 }
