@@ -135,10 +135,11 @@ def write(crate, name, data):
         f.write(data)
 
 
-data = encode(sample()) + b"".join(struct.pack(">I", s) for s in SAMPLE_SECONDS)
-write("tariffs", "stdin", data)
-write("tariffs", "stdout", lines(data).encode())
-all_runs = runs()
-write("tariffs_runs", "stdin", b"".join(struct.pack(">I", len(r)) + r for r in all_runs))
-write("tariffs_runs", "stdout", "".join("run %d\n%s" % (k, lines(r)) for k, r in enumerate(all_runs)).encode())
-print(len(all_runs), "runs")
+if __name__ == "__main__":
+    data = encode(sample()) + b"".join(struct.pack(">I", s) for s in SAMPLE_SECONDS)
+    write("tariffs", "stdin", data)
+    write("tariffs", "stdout", lines(data).encode())
+    all_runs = runs()
+    write("tariffs_runs", "stdin", b"".join(struct.pack(">I", len(r)) + r for r in all_runs))
+    write("tariffs_runs", "stdout", "".join("run %d\n%s" % (k, lines(r)) for k, r in enumerate(all_runs)).encode())
+    print(len(all_runs), "runs")

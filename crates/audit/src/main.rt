@@ -1,22 +1,9 @@
 // Standard input: an image and then a life, one call to a line. Standard output: each call with its answer, then the meter's look and an archive reader's.
-mod parties;
-mod report;
-
-use archive::Answer;
-use life::Life;
-use life::NotALife;
-use parties::looks;
-use parties::rehearse;
-use report::write_answers;
-use report::write_looks;
-use std::alloc::Global;
+use life::audit;
 use std::error::AnyError;
 use std::io::BufWriter;
 use std::io::Read;
 use std::io::Write;
-
-// The bytes of a whole image.
-const IMAGE_BYTES: usize = 837;
 
 fn main(rt: LibcRuntime) -> Result<(), AnyError> {
     let mut input = Vec::new(rt.alloc());
@@ -24,51 +11,5 @@ fn main(rt: LibcRuntime) -> Result<(), AnyError> {
     let mut out = BufWriter::new(rt.stdout());
     audit(rt.alloc(), input.as_mut_slice(), &mut out)?;
     out.flush()?;
-    Ok(())
-}
-
-// A cut image gives the line `short`. A line that is no call is named, and nothing is performed.
-fn audit<W: Write>(heap: Global, input: &mut [u8], out: &mut W) -> Result<(), AnyError> {
-    if input.len() < IMAGE_BYTES {
-        writeln!(out, "short")?;
-        return Ok(());
-    }
-    let (image, lines) = input.split_at_mut(IMAGE_BYTES);
-    let text = String::from_utf8_lossy(heap, lines)?;
-    match Life::read(heap, text.as_str()) {
-        Ok(life) => live_and_report(heap, image, &life, text.as_str(), out),
-        Err(NotALife::Line(number)) => {
-            writeln!(out, "line {number} cannot be read")?;
-            Ok(())
-        }
-        Err(NotALife::NoMemory) => Err("no memory".into()),
-    }
-}
-
-fn live_and_report<W: Write>(
-    heap: Global,
-    image: &mut [u8],
-    life: &Life,
-    text: &str,
-    out: &mut W,
-) -> Result<(), AnyError> {
-    let calls = life.calls(heap)?;
-    let mut answers = vec![in heap; Answer::Done; calls.len()]?;
-    let mut copy = image.to_vec(heap)?;
-    let (mut cells, time) = rehearse(
-        heap,
-        copy.as_mut_slice(),
-        calls.as_slice(),
-        answers.as_mut_slice(),
-    )?;
-    let (meter, reader) = looks(
-        image,
-        calls.as_slice(),
-        answers.as_mut_slice(),
-        cells.as_mut_slice(),
-        time,
-    );
-    write_answers(text, answers.as_slice(), out)?;
-    write_looks(meter, reader, out)?;
     Ok(())
 }
