@@ -9,7 +9,7 @@ use Rattle.std.specs.declared.result.Result.{Result}
 use Rattle.std.specs.declared.result.Result.the-variants.{Ok, Err}
 use Rattle.refusal.specs.declared.refusal.Refusal.{Refusal}
 use Rattle.clock.specs.Time.{Sound}
-use Rattle.schedule.specs.Cells.{cellAt, timetable}
+use Rattle.tables.specs.Cells.{cellAt, timetable}
 use Rattle.schedule.specs.Looks.{Rule, SameRule, lookAt, onward}
 use Rattle.schedule.specs.declared.answer.Look.{Look}
 use Rattle.schedule.proofs.Agree.{agreeing}

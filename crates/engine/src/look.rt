@@ -1,13 +1,13 @@
 ghost use Rattle.engine.specs.Looks.{lookAnswer};
-ghost use Rattle.schedule.specs.Cells.{cellAt, timetable};
-ghost use Rattle.schedule.specs.Filled.{timetableIn};
+ghost use Rattle.tables.specs.Cells.{cellAt, timetable};
+ghost use Rattle.tables.specs.Filled.{timetableIn};
 ghost use mathlib.Core.Path.{_≡_};
 use crate::engine::Engine;
 use clock::Clock;
 use edit::copied;
 use refusal::Refusal;
 use schedule::Look;
-use schedule::Tables;
+use tables::Tables;
 use schedule::look;
 use store::Store;
 use summer::SummerRule;

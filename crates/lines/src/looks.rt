@@ -1,12 +1,12 @@
-ghost use Rattle.schedule.specs.Cells.{cellAt, timetable};
-ghost use Rattle.schedule.specs.Filled.{timetableIn};
+ghost use Rattle.tables.specs.Cells.{cellAt, timetable};
+ghost use Rattle.tables.specs.Filled.{timetableIn};
 ghost use Rattle.schedule.specs.Looks.{lookOf};
 ghost use Rattle.store.specs.Image.{imageCells};
 ghost use Rattle.summer.specs.Laws.{europe};
 ghost use mathlib.Core.Path.{_≡_};
 use engine::tables_of;
 use schedule::Look;
-use schedule::Tables;
+use tables::Tables;
 use schedule::look;
 use store::ImageStore;
 use store::ImageStoreStore;

@@ -3,12 +3,12 @@ use Prim.Native.Nat.{ℕ, _-_, _≤_, _<_}
 use mathlib.Core.Path.{_≡_, refl, sym, ap, subst, _∙_}
 use mathlib.Core.List.{List}
 use native.Mathlib.Omega.{arith}
-use Rattle.schedule.specs.Cells.{Timetable, cellAt, timetable}
+use Rattle.tables.specs.Cells.{Timetable, cellAt, timetable}
 use Rattle.schedule.specs.Looks.{Rule, SameRule, lookAt, lookOf, onward}
 use Rattle.schedule.specs.Laws.{Laws}
 use Rattle.schedule.specs.declared.answer.Look.{Look}
 use Rattle.schedule.proofs.Steadying.{steady, last-within}
-use Rattle.schedule.proofs.Agree.{agreeing, same-cells}
+use Rattle.schedule.proofs.Agree.{agreeing}
 use Rattle.schedule.proofs.Dated.{days-have-dates}
 use Rattle.schedule.proofs.Openings.{openings-mean}
 
@@ -24,4 +24,4 @@ pub seen-alike : (cells : List ℕ) (f g : Rule) (t : ℕ) (l m : Look) → t < 
 seen-alike cells f g t l m h p q same = p ∙ (agreeing (cellAt cells) f g t same (omega arith) ∙ sym q)
 
 pub laws : Laws
-laws = record { steady = steady; within = last-within; agreeing = agreeing; cells = same-cells; dates = days-have-dates; openings = openings-mean }
+laws = record { steady = steady; within = last-within; agreeing = agreeing; dates = days-have-dates; openings = openings-mean }

@@ -11,10 +11,8 @@ use Rattle.std.specs.declared.option.Option.{Option}
 use Rattle.std.specs.declared.option.Option.the-variants.{Some, None}
 use Rattle.calendar.specs.Months.{firstOf, monthAt, yearAt}
 use Rattle.std.proofs.shelf.Tests.{cases-lt}
-use Rattle.std.specs.Numbers.{remEuclid}
-use Rattle.calendar.specs.Weekdays.{weekdayOf}
 use Rattle.calendar.specs.Dates.{InDays, IsDate, placeOf}
-use Rattle.calendar.proofs.MonthPlaces.{begins, climbs, ends, found, from-first, short, to-next}
+use Rattle.calendar.proofs.MonthPlaces.{begins, climbs, ends, found, from-first, to-next}
 use Rattle.keeper.specs.Least.{leastLater, Least, IsLeast}
 use Rattle.keeper.proofs.Leasts.{least-is, least-only}
 use Rattle.schedule.specs.Days.{nextMonth, monthBefore, dateBefore, monthOf, dateOf, DaysHaveDates}
@@ -55,27 +53,15 @@ module _ (d : ℤ) (y m k : ℕ) (i : IsDate d y m k) (h : InDays d) where
       let g : (d -ℤ firstOf (placeOf y m + 1 - 1)) +ℤ pos 1 ≡ pos k = omega (arith, ints) in
       ap (dateBefore d) next-month ∙ ap natAbs g
 
-seven : (z : ℤ) → natAbs (remEuclid z (pos 7)) < 7
-seven (pos a) = omega arith
-seven (negsuc a) = omega arith
-
-pub weekday-most : (w : ℕ) (d : ℤ) → w ≡ weekdayOf d → w ≤ 7
-unfolding weekdayOf
-weekday-most w d e = let h = seven (d +ℤ pos 4) in omega arith
-
 -- the parts of the date that the calendar answers for the same day
 pub record Parts (d : ℤ) (m k : ℕ) : Type 0 where
   pub month : m ≡ monthOf d
   pub date : k ≡ dateOf d
-  pub month-most : m ≤ 12
-  pub date-most : k ≤ 31
 
 pub parts : (d e : ℤ) (y m k : ℕ) → IsDate e y m k → e ≡ d → InDays d → Parts d m k
 parts d e y m k i q h =
     let j : IsDate d y m k = subst (λ (x : ℤ). IsDate x y m k) q i in
-    let n = short y m in
-    let l = i .day-to in
-    record { month = sym (month-is d y m k j h); date = sym (date-is d y m k j h); month-most = i .month-to; date-most = omega arith }
+    record { month = sym (month-is d y m k j h); date = sym (date-is d y m k j h) }
 
 -- every day of the calendar has a month and a date
 lies-in : (d : ℤ) (k : ℕ) → InDays d → Least (λ j. ltZ d (firstOf j)) 0 1635 k → (firstOf (k - 1) ≤ℤ d) × (d <ℤ firstOf (k - 1 + 1))

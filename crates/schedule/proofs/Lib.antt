@@ -1,4 +1,3 @@
-pub mod Numbers
 pub mod Dated
 pub mod Openings
 pub mod Running

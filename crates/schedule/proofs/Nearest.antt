@@ -16,10 +16,10 @@ use Rattle.keeper.specs.Least.{leastLater, changes, Least, IsLeast}
 use Rattle.keeper.specs.Best.{firstBest, Best, IsFirstBest}
 use Rattle.keeper.proofs.Leasts.{least-is, least-only}
 use Rattle.keeper.proofs.Bests.{best-is}
-use Rattle.schedule.specs.Numbered.{alone}
+use Rattle.tables.specs.Numbered.{alone}
 use Rattle.schedule.specs.Boundaries.{Setting, timeAt, eventsAt, startsNow, boundary, beforeNext, lastOf}
 use Rattle.schedule.specs.Candidates.{upTo, ahead, today, candidates, nextChange, LastFrom}
-use Rattle.schedule.specs.declared.event.Event.{Event}
+use Rattle.tables.specs.declared.event.Event.{Event}
 use Rattle.schedule.proofs.Running.{Calm, placed, midnight, falls-at, events-at}
 
 -- x is in the list

@@ -10,11 +10,11 @@ use Rattle.std.specs.declared.option.Option.{Option}
 use Rattle.std.specs.declared.option.Option.the-variants.{Some, None}
 use Rattle.keeper.specs.Least.{leastLater}
 use Rattle.keeper.proofs.Leasts.{later-hit, later-miss, later-end}
-use Rattle.schedule.specs.Cells.{Timetable}
+use Rattle.tables.specs.Cells.{Timetable}
 use Rattle.schedule.specs.Plans.{planOn, eventsOn}
 use Rattle.schedule.specs.EventInForce.{latestOf, eventFrom, daysBack, closingFrom, openingOf}
 use Rattle.schedule.specs.Openings.{closes, closingWithin, openingWithin, OpeningsMean}
-use Rattle.schedule.specs.declared.event.Event.{Event}
+use Rattle.tables.specs.declared.event.Event.{Event}
 use Rattle.schedule.specs.declared.shown.EventInForce.{EventInForce}
 
 module _ (z : Timetable) (d : ℤ) where

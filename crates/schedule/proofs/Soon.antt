@@ -16,7 +16,7 @@ use Rattle.keeper.specs.Offers.{own, placeOf, ranked}
 use Rattle.keeper.proofs.Offering.{best-own}
 use Rattle.schedule.specs.Candidates.{upTo, ahead}
 use Rattle.schedule.specs.Soonest.{earlier, secondOf, SoonestOf}
-use Rattle.schedule.specs.declared.event.Event.{Event}
+use Rattle.tables.specs.declared.event.Event.{Event}
 
 pub pushed : (xs ys : List ℕ) (n : ℕ) (kept : Option (Offer Second ℕ)) → kept ≡ firstBest (ranked earlier) (map (own secondOf) xs ++ (own secondOf n ∷ []))
     → ys ≡ n ∷ [] → SoonestOf (xs ++ ys) kept

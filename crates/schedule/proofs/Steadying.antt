@@ -19,8 +19,8 @@ use Rattle.schedule.specs.RowInForce.{rowOn, rowNumber}
 use Rattle.schedule.specs.Boundaries.{Setting, localAt, dayAt, timeAt, eventsAt, startsNow, boundary, beforeNext, lastOf}
 use Rattle.schedule.specs.Looks.{Rule, settingOf, lookOf, onward}
 use Rattle.schedule.specs.Laws.{Steady, LastWithin}
-use Rattle.schedule.specs.Cells.{Timetable}
-use Rattle.schedule.specs.declared.event.Event.{Event}
+use Rattle.tables.specs.Cells.{Timetable}
+use Rattle.tables.specs.declared.event.Event.{Event}
 use Rattle.schedule.specs.declared.shown.EventInForce.{EventInForce}
 use Rattle.schedule.proofs.Running.{Free, calm, placed, inside, runs, no-start, events-at}
 

@@ -5,16 +5,17 @@ use mathlib.Core.List.{List}
 use lib.IntN.{ℤ}
 use Rattle.std.specs.declared.option.Option.{Option}
 use Rattle.std.specs.declared.option.Option.the-variants.{Some, None}
-use Rattle.schedule.specs.Cells.{Timetable}
+use Rattle.tables.specs.Cells.{Timetable}
 use Rattle.schedule.specs.RowInForce.{rowOn, rowNumber, rowPlan}
-use Rattle.schedule.specs.Plans.{planOn, eventsOf, eventsOn}
+use Rattle.schedule.specs.Plans.{planOn, eventsOn}
+use Rattle.tables.specs.Cells.{eventsOf}
 use Rattle.schedule.specs.EventInForce.{latestOf, startedBy, openingOf, latestOr, eventInForce}
 use Rattle.schedule.specs.Boundaries.{localAt, dayAt, timeAt, lastOf}
 use Rattle.schedule.specs.Candidates.{LastFrom}
 use Rattle.schedule.specs.Looks.{settingOf, showing, lookOf}
 use Rattle.schedule.specs.Moments.{LookFrom}
-use Rattle.schedule.specs.declared.event.Event.{Event}
-use Rattle.schedule.specs.declared.row.Row.{Row}
+use Rattle.tables.specs.declared.event.Event.{Event}
+use Rattle.tables.specs.declared.row.Row.{Row}
 use Rattle.schedule.specs.declared.shown.EventInForce.{EventInForce}
 use Rattle.schedule.specs.declared.moment.Moment.{Moment}
 

@@ -8,7 +8,7 @@ use Rattle.std.specs.declared.option.Option.{Option}
 use Rattle.std.specs.declared.option.Option.the-variants.{Some, None}
 use Rattle.calendar.specs.Local.{localTime, dayOf, timeOf}
 use Rattle.keeper.specs.Least.{leastLater, changes}
-use Rattle.schedule.specs.declared.event.Event.{Event}
+use Rattle.tables.specs.declared.event.Event.{Event}
 
 -- what local time and boundaries depend on: the zone, whether summer time is on, the rule in that zone, and each day's counting events
 pub record Setting : Type 0 where

@@ -8,9 +8,9 @@ use Rattle.std.specs.Joined.{joined}
 use Rattle.std.specs.declared.option.Option.{Option}
 use Rattle.std.specs.declared.option.Option.the-variants.{Some, None}
 use Rattle.keeper.specs.Least.{leastLater, changes}
-use Rattle.schedule.specs.Numbered.{alone}
+use Rattle.tables.specs.Numbered.{alone}
 use Rattle.schedule.specs.Boundaries.{Setting, timeAt, eventsAt, lastOf}
-use Rattle.schedule.specs.declared.event.Event.{Event}
+use Rattle.tables.specs.declared.event.Event.{Event}
 
 -- a second past the last one is none
 abbrev pub upTo : ℕ → List ℕ

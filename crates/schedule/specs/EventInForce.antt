@@ -10,9 +10,9 @@ use Rattle.std.specs.declared.option.Option.the-variants.{Some, None}
 use Rattle.std.specs.shelf.Lists.{kept-by}
 use Rattle.keeper.specs.Best.{firstBest}
 use Rattle.keeper.specs.Least.{leastLater}
-use Rattle.schedule.specs.Cells.{Timetable}
+use Rattle.tables.specs.Cells.{Timetable}
 use Rattle.schedule.specs.Plans.{planOn, eventsOn}
-use Rattle.schedule.specs.declared.event.Event.{Event}
+use Rattle.tables.specs.declared.event.Event.{Event}
 use Rattle.schedule.specs.declared.shown.EventInForce.{EventInForce}
 
 -- the later start wins; of equal ones the first, which has the lowest number

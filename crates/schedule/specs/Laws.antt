@@ -3,7 +3,7 @@ use Prim.Native.Nat.{ℕ, _-_, _<_, _≤_}
 use mathlib.Core.Path.{_≡_}
 use lib.IntN.{ℤ, pos, negsuc}
 use lib.Signed.{_≤ℤ_}
-use Rattle.schedule.specs.Cells.{Timetable, timetable}
+use Rattle.tables.specs.Cells.{Timetable, timetable}
 use Rattle.schedule.specs.Days.{DaysHaveDates}
 use Rattle.schedule.specs.Openings.{OpeningsMean}
 use Rattle.schedule.specs.Looks.{Rule, SameRule, lookOf, onward}
@@ -20,15 +20,10 @@ LastWithin = (z : Timetable) (f : Rule) (t : ℕ) → t ≤ 4294967295 → (t �
 abbrev pub Agreeing : Type 0
 Agreeing = (cell : ℕ → ℕ) (f g : Rule) (t : ℕ) → SameRule f g → t ≤ 4294967295 → lookOf (timetable cell) f t ≡ lookOf (timetable cell) g t
 
--- cells that are the same up to the last give the same timetable
-abbrev pub SameCells : Type 0
-SameCells = (cell other : ℕ → ℕ) → ((c : ℕ) → c < 706 → cell c ≡ other c) → timetable cell ≡ timetable other
-
 -- all of this, with what the month, the date and the opening event of a day are
 pub record Laws : Type 0 where
   pub steady : Steady
   pub within : LastWithin
   pub agreeing : Agreeing
-  pub cells : SameCells
   pub dates : DaysHaveDates
   pub openings : OpeningsMean

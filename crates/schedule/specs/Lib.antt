@@ -1,7 +1,3 @@
-pub mod Numbered
-pub mod Bits
-pub mod Cells
-pub mod Filled
 pub mod Days
 pub mod RowInForce
 pub mod Plans

@@ -5,7 +5,7 @@ use mathlib.Core.Bool.{Bool}
 use mathlib.Core.List.{List}
 use lib.IntN.{ℤ, pos, negsuc, _+ℤ_}
 use lib.Signed.{_≤ℤ_}
-use Rattle.schedule.specs.Cells.{Timetable, cellAt, timetable}
+use Rattle.tables.specs.Cells.{Timetable, cellAt, timetable}
 use Rattle.schedule.specs.RowInForce.{rowOn, rowNumber}
 use Rattle.schedule.specs.Plans.{planOn, eventsOn}
 use Rattle.schedule.specs.EventInForce.{eventInForce}

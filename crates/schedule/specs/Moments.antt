@@ -2,7 +2,7 @@
 use Prim.Native.Nat.{ℕ}
 use mathlib.Core.Path.{_≡_}
 use Rattle.std.specs.declared.option.Option.{Option}
-use Rattle.schedule.specs.Cells.{Timetable}
+use Rattle.tables.specs.Cells.{Timetable}
 use Rattle.schedule.specs.Boundaries.{Setting, localAt, dayAt, timeAt}
 use Rattle.schedule.specs.Candidates.{nextChange}
 use Rattle.schedule.specs.Looks.{Rule, settingOf, lookOf}

@@ -4,10 +4,10 @@ use mathlib.Core.Path.{_≡_}
 use lib.IntN.{ℤ, pos, _-ℤ_}
 use Rattle.std.specs.declared.option.Option.{Option}
 use Rattle.std.specs.declared.option.Option.the-variants.{Some, None}
-use Rattle.schedule.specs.Cells.{Timetable}
+use Rattle.tables.specs.Cells.{Timetable}
 use Rattle.schedule.specs.Plans.{planOn, eventsOn}
 use Rattle.schedule.specs.EventInForce.{latestOf, noEvent, openingOf}
-use Rattle.schedule.specs.declared.event.Event.{Event}
+use Rattle.tables.specs.declared.event.Event.{Event}
 use Rattle.schedule.specs.declared.shown.EventInForce.{EventInForce}
 
 -- the latest event of the plan p, so many days back, or else what the day opened with

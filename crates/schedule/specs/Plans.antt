@@ -1,15 +1,10 @@
--- The row, the plan and the events of each day of a timetable. Assumes nothing.
+-- The plan and the events of each day of a timetable. Assumes nothing.
 use Prim.Native.Nat.{ℕ}
-use mathlib.Core.List.{List, []}
+use mathlib.Core.List.{List}
 use lib.IntN.{ℤ}
-use lib.ListN.{getD}
-use Rattle.schedule.specs.Cells.{Timetable}
+use Rattle.tables.specs.Cells.{Timetable, eventsOf}
 use Rattle.schedule.specs.RowInForce.{rowOn, rowPlan}
-use Rattle.schedule.specs.declared.event.Event.{Event}
-
--- the counting events of a plan
-unfoldable pub eventsOf : Timetable → ℕ → List Event
-eventsOf z p = getD (z .plans) p []
+use Rattle.tables.specs.declared.event.Event.{Event}
 
 -- the plan of a day
 unfoldable pub planOn : Timetable → ℤ → ℕ

@@ -9,9 +9,9 @@ use Rattle.std.specs.shelf.Lists.{kept-by}
 use Rattle.calendar.specs.Weekdays.{weekdayOf}
 use Rattle.keeper.specs.Best.{firstBest}
 use Rattle.keeper.specs.Fewer.{fewer}
-use Rattle.schedule.specs.Bits.{bit}
+use Rattle.tables.specs.Bits.{bit}
 use Rattle.schedule.specs.Days.{monthOf, dateOf}
-use Rattle.schedule.specs.declared.row.Row.{Row}
+use Rattle.tables.specs.declared.row.Row.{Row}
 
 -- the bits of the month, of the weekday and of the date are set
 abbrev pub fits : ℕ → ℕ → ℕ → Row → Bool

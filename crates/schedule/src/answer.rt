@@ -1,4 +1,4 @@
-use crate::event::Tariff;
+use tables::Tariff;
 
 // What is shown at a second, and the last second up to which all but local time stays.
 #[derive(Clone, Copy, Drop, PartialEq, Eq, Debug)]

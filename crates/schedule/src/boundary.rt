@@ -3,15 +3,15 @@ ghost use Rattle.keeper.specs.Best.{firstBest};
 ghost use Rattle.keeper.specs.Offers.{own, ranked};
 ghost use Rattle.schedule.specs.Boundaries.{beforeNext};
 ghost use Rattle.schedule.specs.Candidates.{ahead, candidates, LastFrom, today, upTo};
-ghost use Rattle.schedule.specs.Numbered.{alone};
+ghost use Rattle.tables.specs.Numbered.{alone};
 ghost use Rattle.schedule.specs.Soonest.{SoonestOf};
 ghost use lib.Dec.{ltb};
 ghost use mathlib.Core.List.{List, _++_};
 ghost use mathlib.Core.Path.{_≡_};
-use crate::event::Event;
 use keeper::Keeper;
 use keeper::Second;
 use keeper::SecondRank;
+use tables::Event;
 
 // Offers the second that lies so many seconds after t, unless it is past the last one.
 fn offer_after(soonest: &mut Keeper<Second, u32>, t: u32, seconds: u32)

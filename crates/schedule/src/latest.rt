@@ -2,10 +2,10 @@ ghost use Prim.Native.Nat.{_*_};
 ghost use Rattle.schedule.specs.EventInForce.{latestOf, startedBy, startedUntil};
 ghost use Rattle.std.specs.shelf.Lists.{kept-by};
 ghost use mathlib.Core.Path.{_≡_};
-use crate::event::Event;
 use keeper::Keeper;
 use keeper::Minute;
 use keeper::MinuteRank;
+use tables::Event;
 
 // Whether an event has started at a second of the day; where no second is asked for, every event is let through.
 fn has_started(event: Event, until: Option<u32>) -> bool

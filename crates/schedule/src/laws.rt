@@ -1,12 +1,12 @@
 ghost use Prim.Native.Nat.{_-_, _≤_};
-ghost use Rattle.schedule.specs.Filled.{timetableIn};
+ghost use Rattle.tables.specs.Filled.{timetableIn};
 ghost use Rattle.schedule.specs.Laws.{Laws};
 ghost use Rattle.schedule.specs.Looks.{SameRule, lookAt, lookOf, onward};
 ghost use mathlib.Core.Path.{_≡_};
 use crate::answer::Look;
 use crate::looking::look;
-use crate::tables::Tables;
 use summer::SummerRule;
+use tables::Tables;
 
 fn looks_at<R: SummerRule>(tables: &Tables, rule: &R, second: u32, later: u32) -> (Look, Look)
     ensures first { λ r. ⌜ r .0 ≡ lookOf (timetableIn (now (tables .entry))) (R·SummerRule .inForce (now (rule .entry))) second ⌝ }

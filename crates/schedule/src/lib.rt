@@ -1,37 +1,21 @@
 // Which tariff: the row, the event and the last second of a look, over plain copied tables.
 mod answer;
-mod bits;
 mod boundary;
 mod day;
-mod days;
-mod event;
-mod filled;
 mod latest;
 mod laws;
 mod looking;
 mod moment;
 mod opening;
-mod plan;
 mod plans;
-mod reading;
-mod row;
 mod row_in_force;
-mod rows;
 mod shown;
-mod tables;
 
 pub use answer::Look;
 pub use answer::LookDebug;
 pub use answer::LookEq;
 pub use answer::LookPartialEq;
-pub use event::Event;
-pub use event::Tariff;
 pub use laws::last_second_of;
 pub use laws::look_by_both;
 pub use laws::look_twice;
 pub use looking::look;
-pub use plan::DayPlan;
-pub use row::Row;
-pub use rows::Rows;
-pub use shown::EventInForce;
-pub use tables::Tables;

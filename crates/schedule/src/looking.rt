@@ -2,7 +2,7 @@ ghost use Rattle.calendar.specs.Local.{dayOf};
 ghost use Rattle.schedule.specs.Boundaries.{localAt};
 ghost use Rattle.schedule.specs.Candidates.{nextChange};
 ghost use Rattle.schedule.specs.EventInForce.{eventInForce};
-ghost use Rattle.schedule.specs.Filled.{timetableIn};
+ghost use Rattle.tables.specs.Filled.{timetableIn};
 ghost use Rattle.schedule.specs.Looks.{lookOf, settingOf};
 ghost use Rattle.schedule.specs.Moments.{IsMoment, LookFrom};
 ghost use Rattle.schedule.specs.Plans.{planOn};
@@ -17,12 +17,13 @@ use crate::moment::Moment;
 use crate::opening::opening_event;
 use crate::plans::number_of;
 use crate::plans::plan_of;
+use crate::plans::row_of;
 use crate::shown::EventInForce;
-use crate::tables::Tables;
 use calendar::day_number;
 use calendar::local_time;
 use calendar::time_of_day;
 use summer::SummerRule;
+use tables::Tables;
 
 fn in_summer<R: SummerRule>(tables: &Tables, rule: &R, second: u32) -> bool
     ensures { λ r. ⌜ r ≡ (now (tables .entry) .summer && R·SummerRule .inForce (now (rule .entry)) (now (tables .entry) .offset) second) ⌝ }
@@ -92,7 +93,7 @@ fn event_in_force(tables: &Tables, day: i32, plan: u8, time: u32) -> EventInForc
 fn look_at(tables: &Tables, second: u32, moment: Moment, change: Option<u32>) -> Look
     ensures { λ r. ⌜ LookFrom (timetableIn (now (tables .entry))) second moment change r ⌝ }
 {
-    let row = tables.row_on(moment.day);
+    let row = row_of(tables, moment.day);
     let plan = plan_of(row);
     let event = event_in_force(tables, moment.day, plan, moment.time);
     Look {

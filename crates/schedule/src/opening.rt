@@ -1,13 +1,14 @@
 ghost use Prim.Native.Nat.{_≤_};
 ghost use Rattle.schedule.specs.EventInForce.{noEvent, openingOf};
-ghost use Rattle.schedule.specs.Filled.{timetableIn};
+ghost use Rattle.tables.specs.Filled.{timetableIn};
 ghost use Rattle.schedule.specs.Openings.{closingWithin, openingWithin};
 ghost use lib.IntN.{pos, negsuc, _-ℤ_};
 ghost use lib.Signed.{_≤ℤ_, _<ℤ_};
 ghost use mathlib.Core.Path.{_≡_};
 use crate::latest::latest;
+use crate::plans::plan_on;
 use crate::shown::EventInForce;
-use crate::tables::Tables;
+use tables::Tables;
 
 fn no_event() -> EventInForce
     ensures { λ r. ⌜ r ≡ noEvent ⌝ }
@@ -41,7 +42,7 @@ fn closing(tables: &Tables, day: i32, left: u8) -> EventInForce
     requires seven { ⌜ left ≤ 7 ⌝ }
     ensures { λ r. ⌜ r ≡ closingWithin (timetableIn (now (tables .entry))) day left ⌝ }
 {
-    let plan = tables.plan_on(day);
+    let plan = plan_on(tables, day);
     match latest(tables.events_of(plan)) {
         Some(event) => EventInForce {
             plan,

@@ -1,11 +1,11 @@
 ghost use Rattle.calendar.specs.Dates.{InDays};
 ghost use Rattle.schedule.specs.RowInForce.{bestRow, fits, rowOn};
 ghost use mathlib.Core.Path.{_≡_};
-use crate::bits::has_bit;
 use crate::day::Day;
-use crate::row::Row;
 use keeper::CountsRank;
 use keeper::Keeper;
+use tables::Row;
+use tables::has_bit;
 
 fn fits_day(row: Row, day: Day) -> bool
     ensures { λ r. ⌜ r ≡ fits (day .month) (day .weekday) (day .date) row ⌝ }

@@ -1,4 +1,4 @@
-use crate::event::Tariff;
+use tables::Tariff;
 
 // The event in force: its plan, its number, how many days back it started, and its tariff; all 0 where there is none.
 #[derive(Clone, Copy, Drop)]

@@ -1,5 +1,5 @@
 use mathlib.Core.Path.{_≡_, ap}
-use Rattle.schedule.specs.Numbered.{alone}
+use Rattle.tables.specs.Numbered.{alone}
 use Rattle.schedule.proofs.Soon.{pushed}
 use Rattle.schedule.proofs.boundary.offer_change.Needs as need
 

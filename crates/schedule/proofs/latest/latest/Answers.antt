@@ -3,7 +3,7 @@ use mathlib.Core.Bool.{true}
 use mathlib.Core.List.{List, [], _∷_}
 use Rattle.std.specs.shelf.Lists.{kept-by}
 use Rattle.schedule.specs.EventInForce.{latestOf}
-use Rattle.schedule.specs.declared.event.Event.{Event}
+use Rattle.tables.specs.declared.event.Event.{Event}
 use Rattle.schedule.proofs.latest.latest.Needs as need
 
 all : (es : List Event) → kept-by (λ _. true) es ≡ es

@@ -6,7 +6,7 @@ use Rattle.keeper.specs.Offers.{own, placeOf, ranked}
 use Rattle.keeper.specs.declared.minute.Minute.{Minute}
 use Rattle.keeper.proofs.Offering.{offer-taken, offer-left, offer-all, best-own}
 use Rattle.schedule.specs.EventInForce.{startedUntil, latestOf}
-use Rattle.schedule.specs.declared.event.Event.{Event}
+use Rattle.tables.specs.declared.event.Event.{Event}
 use Rattle.schedule.proofs.latest.search.Needs as need
 use Rattle.schedule.proofs.latest.search.Needs.{then-has-started, else-has-started}
 

@@ -3,7 +3,7 @@ use native.Mathlib.Omega.{arith}
 use borrow.Author.Differences.{ints}
 use mir.Syntax.{w32, w64}
 use mir.Val.{toZ, ofZ}
-use Rattle.schedule.specs.Filled.{timetableIn}
+use Rattle.tables.specs.Filled.{timetableIn}
 use Rattle.schedule.proofs.Wholes.{plan-is, whole}
 use Rattle.schedule.proofs.looking.look_at.Needs as need
 
@@ -14,12 +14,12 @@ event-in-force-event-requires c κs =
     record {
       from = omega (arith, ints);
       to = omega (arith, ints);
-      today = plan-is (timetableIn (c .args .tables .now)) _ (c .row-on-row .result) (c .plan-of-plan .result) (c .row-on-row .ensures) (c .plan-of-plan .ensures);
+      today = plan-is (timetableIn (c .args .tables .now)) _ (c .row-of-row .result) (c .plan-of-plan .result) (c .row-of-row .ensures) (c .plan-of-plan .ensures);
     }
 
 pub returns : need.returns
 returns c =
     whole (timetableIn (c .args .tables .now)) (c .args .second) (c .args .moment) (c .args .change)
-    _ _ (c .row-on-row .result) (c .plan-of-plan .result) (c .number-of .result) _ (c .event-in-force-event .result) (c .last-second .result)
-    (omega (arith, ints)) (omega (arith, ints)) (c .row-on-row .ensures) (c .plan-of-plan .ensures) (c .number-of .ensures)
-    (c .event-in-force-event .ensures) (c .events-of .ensures) (c .last-second .ensures)
+    _ _ (c .row-of-row .result) (c .plan-of-plan .result) (c .number-of .result) _ (c .event-in-force-event .result) (c .last-second .result)
+    (omega (arith, ints)) (omega (arith, ints)) (c .row-of-row .ensures) (c .plan-of-plan .ensures) (c .number-of .ensures)
+    (c .event-in-force-event .ensures) (c .events-of .ensures .answer) (c .last-second .ensures)

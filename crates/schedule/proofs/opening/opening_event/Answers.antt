@@ -3,7 +3,7 @@ use native.Mathlib.Omega.{arith}
 use borrow.Author.Differences.{ints}
 use lib.IntN.{ℤ}
 use Rattle.schedule.specs.Openings.{openingWithin}
-use Rattle.schedule.specs.Filled.{timetableIn}
+use Rattle.tables.specs.Filled.{timetableIn}
 use Rattle.schedule.proofs.Openings.{within-seven}
 use Rattle.schedule.proofs.opening.opening_event.Needs as need
 

@@ -7,7 +7,7 @@ use Rattle.keeper.specs.declared.counts.Counts.{Counts}
 use Rattle.keeper.proofs.Offering.{offered, offer-taken, offer-left, offer-all, best-own}
 use mathlib.Core.Bool.{Bool}
 use Rattle.schedule.specs.RowInForce.{fits, bestRow}
-use Rattle.schedule.specs.declared.row.Row.{Row}
+use Rattle.tables.specs.declared.row.Row.{Row}
 use Rattle.schedule.proofs.row_in_force.best_row.Needs as need
 use Rattle.schedule.proofs.row_in_force.best_row.Needs.{then-fits-day, else-fits-day}
 

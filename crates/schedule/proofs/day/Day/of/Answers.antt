@@ -2,14 +2,8 @@ use native.Mathlib.Omega.{arith}
 use borrow.Author.Differences.{ints}
 use borrow.Author.Needs.{needs}
 use Rattle.std.proofs.shelf.Signed.{toZ-ofZ}
-use Rattle.schedule.proofs.Dated.{parts, weekday-most}
+use Rattle.schedule.proofs.Dated.{parts}
 use Rattle.schedule.proofs.day.Day.of.Needs as need
-
-pub ghost-result : need.ghost-result
-ghost-result c =
-    let p = parts (c .args .number) _ _ _ _ (c .in-Ok .ensures tt .1) (omega (arith, ints)) (c .pre) in
-    let w = weekday-most (c .weekday .result) _ (c .weekday .ensures .answer) in
-    (omega arith, (omega arith, (omega arith, tt)))
 
 pub returns : need.returns
 returns c =

@@ -1,0 +1,3 @@
+pub mod Summers
+pub mod Tabled
+pub mod Worked

@@ -1,6 +1,0 @@
-use borrow.Author.Needs.{needs}
-use Rattle.std.proofs.shelf.Signed.{toZ-ofZ}
-use Rattle.schedule.proofs.tables.Tables.row_on.Needs as need
-
-pub returns : need.returns
-returns c = search (needs, toZ-ofZ)

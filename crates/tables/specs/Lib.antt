@@ -1,0 +1,4 @@
+pub mod Numbered
+pub mod Bits
+pub mod Cells
+pub mod Filled
