@@ -27,6 +27,9 @@ use Rattle.schedule.specs.RowInForce.{bestRow, rowOn, rowNumber, rowPlan}
 use Rattle.schedule.specs.declared.shown.EventInForce.{EventInForce}
 use Rattle.summer.specs.Laws.{europe}
 use Rattle.summer.proofs.Stars.{examples as summers}
+use Rattle.orders.specs.Form.{reads, readsOn}
+use Rattle.engine.specs.Run.{runAnswer}
+use Rattle.examples.specs.Orders.{ordered, orders, ranOn}
 use Rattle.examples.specs.Table.{cells, seconds, shown, worked}
 use Rattle.examples.specs.Examples.{Examples, midsummer}
 use Rattle.examples.proofs.Summers.{winter, summer, winter-again, next-in-winter, next-in-summer, next-in-winter-again}
@@ -174,6 +177,10 @@ last-of-1969 : IsDate (negsuc 0) 1969 12 31
 unfolding firstOf
 last-of-1969 = record { month-from = omega arith; month-to = omega arith; day-from = omega arith; day-to = omega arith; number = refl; begun = omega arith }
 
+orders-so : (made : List ℕ) → map (ranOn made) orders ≡ ordered
+unfolding reads readsOn runAnswer
+orders-so made = refl
+
 pub shown-so : Examples
 unfolding dayOf weekdayOf
 shown-so =
@@ -186,4 +193,5 @@ shown-so =
       december = last-of-1969;
       june = date 6 19875 19895 21 (omega arith) (omega arith) june (omega arith) (omega arith) refl;
       midsummer = midsummer-row;
+      orders = orders-so;
     }

@@ -1,2 +1,3 @@
 pub mod Table
+pub mod Orders
 pub mod Examples
