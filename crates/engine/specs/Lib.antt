@@ -2,3 +2,4 @@ pub mod Looks
 pub mod Book
 pub mod Run
 pub mod Engines
+pub mod Lent

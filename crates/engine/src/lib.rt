@@ -1,6 +1,7 @@
 // The engine: a clock, a store and a rule, the edit that stands open, and work orders.
 mod edits;
 mod engine;
+mod lent;
 mod look;
 mod run;
 mod stopped;
@@ -8,6 +9,7 @@ mod ticket;
 mod time;
 
 pub use engine::Engine;
+pub use lent::run_on_image;
 pub use look::tables_of;
 pub use stopped::Stopped;
 pub use stopped::StoppedDebug;

@@ -7,10 +7,10 @@ use clock::Clock;
 use edit::copied;
 use refusal::Refusal;
 use schedule::Look;
-use tables::Tables;
 use schedule::look;
 use store::Store;
 use summer::SummerRule;
+use tables::Tables;
 
 // The tables of a store's cells, made once for many looks.
 pub fn tables_of<S: Store>(store: &S) -> Tables

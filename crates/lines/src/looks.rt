@@ -6,12 +6,12 @@ ghost use Rattle.summer.specs.Laws.{europe};
 ghost use mathlib.Core.Path.{_≡_};
 use engine::tables_of;
 use schedule::Look;
-use tables::Tables;
 use schedule::look;
 use store::ImageStore;
 use store::ImageStoreStore;
 use summer::Europe;
 use summer::EuropeRule;
+use tables::Tables;
 
 // The tables of an image, decoded once for all its seconds.
 pub fn tables_in(image: &mut [u8]) -> Tables
