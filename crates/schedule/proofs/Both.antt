@@ -9,6 +9,8 @@ use Rattle.schedule.specs.Laws.{Laws}
 use Rattle.schedule.specs.declared.answer.Look.{Look}
 use Rattle.schedule.proofs.Steadying.{steady, last-within}
 use Rattle.schedule.proofs.Agree.{agreeing}
+use Rattle.keeper.proofs.Leasts.{least-is}
+use Rattle.schedule.proofs.Meaning.{rows-mean, events-mean}
 use Rattle.schedule.proofs.Dated.{days-have-dates}
 use Rattle.schedule.proofs.Openings.{openings-mean}
 
@@ -24,4 +26,4 @@ pub seen-alike : (cells : List ℕ) (f g : Rule) (t : ℕ) (l m : Look) → t < 
 seen-alike cells f g t l m h p q same = p ∙ (agreeing (cellAt cells) f g t same (omega arith) ∙ sym q)
 
 pub laws : Laws
-laws = record { steady = steady; within = last-within; agreeing = agreeing; dates = days-have-dates; openings = openings-mean }
+laws = record { steady = steady; within = last-within; agreeing = agreeing; least = least-is; rows = rows-mean; events = events-mean; dates = days-have-dates; openings = openings-mean }

@@ -8,3 +8,4 @@ pub mod Wholes
 pub mod Steadying
 pub mod Agree
 pub mod Both
+pub mod Meaning

@@ -27,7 +27,7 @@ latestOf events = firstBest startsLater events
 abbrev pub hasStarted : ℕ → Event → Bool
 hasStarted second event = leb (event .minute * 60) second
 
--- the same, where the second is known
+-- the same where a second is given; without one every event passes
 abbrev pub startedUntil : Option ℕ → Event → Bool
 startedUntil (Some second) event = hasStarted second event
 startedUntil None event = true
