@@ -1,10 +1,11 @@
 // An image and seconds in, a line for each look out.
+mod line;
 mod looks;
 mod seconds;
 
+use line::write_look;
 use looks::look_at;
 use looks::tables_in;
-use schedule::Look;
 use seconds::second_at;
 use std::io;
 use std::io::Write;
@@ -24,20 +25,4 @@ pub fn write_lines<W: Write>(input: &mut [u8], out: &mut W) -> io::Result<()> {
         write_look(&look, out)?;
     }
     Ok(())
-}
-
-// The fields in sequence, blanks between.
-fn write_look<W: Write>(look: &Look, out: &mut W) -> io::Result<()> {
-    let local = look.local_time;
-    let row = look.row;
-    let plan = look.plan;
-    let event_plan = look.event_plan;
-    let event = look.event;
-    let back = look.days_back;
-    let tariff = look.tariff;
-    let last = look.last_second;
-    writeln!(
-        out,
-        "{local} {row} {plan} {event_plan} {event} {back} {tariff} {last}"
-    )
 }
