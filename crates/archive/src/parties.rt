@@ -72,6 +72,7 @@ pub fn confirm_unset<C: Clock, S: Store, R: SummerRule, D: Clock, T: Store, Q: S
 ) -> Confirmation<Unset<C>, S, R, D, T, Q>
     ensures answer { λ o. ⌜ o .count ≡ min (length (now (calls .entry))) (length (now (answers .entry))) ⌝ }
     ensures law { λ o. ⌜ Confirmed noKind (newly (C·Clock .time clock, C·Clock .span clock) (S·Store .cells store) (S·Store .rest store) (S·Store .home store) (R·SummerRule .inForce rule)) (take (o .count) (now (calls .entry))) (meaning (unsetTime (C·Clock .time)) (unsetSpan (C·Clock .span)) (S·Store .cells) (S·Store .rest) (S·Store .home) (R·SummerRule .inForce) (o .meter)) (newly (D·Clock .time «reader_clock», D·Clock .span «reader_clock») (T·Store .cells «reader_store») (T·Store .rest «reader_store») (T·Store .home «reader_store») (Q·SummerRule .inForce «reader_rule»)) (take (o .count) (now (answers .exit))) (o .shown) (o .read) ⌝ }
+    ensures reader { λ o. ⌜ meaning (D·Clock .time) (D·Clock .span) (T·Store .cells) (T·Store .rest) (T·Store .home) (Q·SummerRule .inForce) (o .reader) ≡ newly (D·Clock .time «reader_clock», D·Clock .span «reader_clock») (T·Store .cells «reader_store») (T·Store .rest «reader_store») (T·Store .home «reader_store») (Q·SummerRule .inForce «reader_rule») ⌝ }
     ensures same { λ o. ⌜ drop (o .count) (now (answers .exit)) ≡ drop (o .count) (now (answers .entry)) ⌝ }
 {
     confirm(
