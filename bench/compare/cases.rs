@@ -49,6 +49,7 @@ pub fn compare(many: u64, seed: u64) -> u64 {
         println!("{n:>12} {what}");
         all += n;
     };
+    say("looks of the image in docs/BY-HAND.md", by_hand());
     say(
         "days and dates, all from -40,000 to 60,000 and 1900 to 2200",
         dates(),
@@ -71,6 +72,39 @@ pub fn compare(many: u64, seed: u64) -> u64 {
     );
     say("calls in random lives", lives(many, &mut random));
     all
+}
+
+/// The image and the look that docs/BY-HAND.md works out, and two looks about the start of a summer.
+fn by_hand() -> u64 {
+    let mut image = vec![0; 837];
+    image[..13].copy_from_slice(b"\x00\x00\xb6\xd0\x01\x1f\xfe\xfe\xff\xff\xff\xfe\x01");
+    image[13..21].copy_from_slice(b"\x10\x00\xfe\x02\x00\x00\x00\x02");
+    image[261..267].copy_from_slice(b"\x06\x00\x01\x16\x00\x02");
+    image[297..300].copy_from_slice(b"\x00\x00\x03");
+    let look = |local_time,
+                [row, plan, event_plan, event, days_back, tariff]: [u8; 6],
+                last_second| Fields {
+        local_time,
+        last_second,
+        row,
+        plan,
+        event_plan,
+        event,
+        days_back,
+        tariff,
+    };
+    let known = [
+        (1735167600, look(1735171200, [1, 1, 2, 1, 1, 3], 1735189199)),
+        (1711846799, look(1711850399, [1, 1, 1, 2, 1, 2], 1711846799)),
+        (1711846800, look(1711854000, [1, 1, 1, 2, 1, 2], 1711857599)),
+    ];
+    for (second, look) in known {
+        let plain = fields(Tables::open(&image).look(Rule::Europe, second));
+        same(|| format!("by hand, plain, {second}"), plain, look);
+        let library = library::look(&mut image, 1, second);
+        same(|| format!("by hand, library, {second}"), library, look);
+    }
+    known.len() as u64
 }
 
 fn dates() -> u64 {
