@@ -107,11 +107,28 @@ def full_edit():
     return "\n".join(["open"] + puts + ["put 200 1", "put 130 2", "check", "discard"]) + "\n"
 
 
+# lives with a line that is no call, and its number; blank lines count
+UNREADABLE = {
+    "look\nset 5\nput 1\nlook\n": 3,
+    "look\nlook 1": 2,
+    "set": 1,
+    "set 4294967296": 1,
+    "open\n\nput 1\n": 3,
+    "run 014": 1,
+    "run 01 40": 1,
+    "run 01g0": 1,
+    "pass -1": 1,
+    "put 1 2 3": 1,
+    "Look": 1,
+}
+
+
 def runs():
     rng = random.Random(20261117)
     yield IMAGE + DAY.encode()
     yield IMAGE + full_edit().encode()
-    yield IMAGE + b"look\nset 5\nput 1\nlook\n"
+    for text in UNREADABLE:
+        yield IMAGE + text.encode()
     yield IMAGE[:836]
     yield IMAGE
     for _ in range(60):
@@ -122,8 +139,8 @@ def expected(data):
     if len(data) < 837:
         return "short\n"
     text = data[837:].decode()
-    if "put 1\n" in text:
-        return "line 3 cannot be read\n"
+    if text in UNREADABLE:
+        return "line %d cannot be read\n" % UNREADABLE[text]
     return audit(data[:837], text)
 
 

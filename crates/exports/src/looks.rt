@@ -1,4 +1,4 @@
-ghost use Prim.Native.Nat.{ℕ, min, _<_};
+ghost use Prim.Native.Nat.{min};
 ghost use Rattle.exports.specs.Crossing.{fieldsOf, ruleAt};
 ghost use Rattle.tables.specs.Cells.{cellAt, timetable};
 ghost use Rattle.tables.specs.Filled.{timetableIn};

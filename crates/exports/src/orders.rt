@@ -1,4 +1,3 @@
-ghost use Prim.Native.Nat.{ℕ};
 ghost use Rattle.engine.specs.Run.{ran, ranAnswer};
 ghost use Rattle.exports.specs.Crossing.{cellOf, outcomeOf, ruleOf, unopened};
 ghost use Rattle.store.specs.Image.{imageCells, imageOf, imageRest};

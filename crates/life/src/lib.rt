@@ -10,6 +10,3 @@ pub use reading::Life;
 pub use reading::NotALife;
 pub use reading::NotALifeDebug;
 pub use step::Step;
-
-#[cfg(test)]
-mod tests;

@@ -1,6 +1,5 @@
 use native.Mathlib.Omega.{arith}
 use borrow.Author.Differences.{ints}
-use borrow.Author.Needs.{needs}
 use Rattle.calendar.specs.Local.{timeOf}
 use Rattle.calendar.proofs.Floors.{falls}
 use Rattle.calendar.proofs.local.time_of_day.Needs as need
