@@ -29,7 +29,7 @@ use summer::EuropeRule;
 const CELLS: u32 = 706;
 
 // Lives the life once on a copy of the image, to learn what cells and what time a reader is to be made with.
-pub fn rehearse(
+pub(crate) fn rehearse(
     heap: Global,
     image: &mut [u8],
     calls: &[Call],
@@ -58,7 +58,7 @@ fn cells_of<S: Store>(heap: Global, store: &S) -> Result<Vec<u32>, AllocError> {
 }
 
 // The meter lives its life, a reader is made over these cells at this time, and both are looked at.
-pub fn looks(
+pub(crate) fn looks(
     image: &mut [u8],
     calls: &[Call],
     answers: &mut [Answer],

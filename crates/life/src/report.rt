@@ -8,7 +8,11 @@ use std::io;
 use std::io::Write;
 
 // Each line of the life with the answer to its call.
-pub fn write_answers<W: Write>(text: &str, answers: &[Answer], out: &mut W) -> io::Result<()> {
+pub(crate) fn write_answers<W: Write>(
+    text: &str,
+    answers: &[Answer],
+    out: &mut W,
+) -> io::Result<()> {
     let mut place = 0;
     for line in text.lines() {
         if line.split_whitespace().next().is_none() {
@@ -53,7 +57,7 @@ fn write_look<W: Write>(look: Look, out: &mut W) -> io::Result<()> {
 }
 
 // Both looks, and whether they agree.
-pub fn write_looks<W: Write>(
+pub(crate) fn write_looks<W: Write>(
     meter: Result<Look, Refusal>,
     reader: Result<Look, Refusal>,
     out: &mut W,

@@ -13,7 +13,7 @@ const DIGITS: usize = 20;
 
 // One line, put together before it is written: a number costs no call of the formatter.
 #[derive(Drop)]
-pub struct Line {
+pub(crate) struct Line {
     bytes: [u8; 64],
     len: usize,
     ghost whole: { length bytes ≡ 64 },
@@ -67,7 +67,7 @@ impl Line {
 }
 
 // The fields in sequence, blanks between.
-pub fn write_look<W: Write>(look: &Look, out: &mut W) -> io::Result<()> {
+pub(crate) fn write_look<W: Write>(look: &Look, out: &mut W) -> io::Result<()> {
     let mut line = Line::new();
     line.push_signed(look.local_time);
     line.push_field(u64::from(look.row));

@@ -14,7 +14,7 @@ use summer::EuropeRule;
 use tables::Tables;
 
 // The tables of an image, decoded once for all its seconds.
-pub fn tables_in(image: &mut [u8]) -> Tables
+pub(crate) fn tables_in(image: &mut [u8]) -> Tables
     ensures { λ r. ⌜ timetableIn r ≡ timetable (cellAt (imageCells (now (image .entry)))) ⌝ }
 {
     let store = ImageStore::new(image);
@@ -22,7 +22,7 @@ pub fn tables_in(image: &mut [u8]) -> Tables
 }
 
 // The look at a second under the European law.
-pub fn look_at(tables: &Tables, second: u32) -> Look
+pub(crate) fn look_at(tables: &Tables, second: u32) -> Look
     ensures { λ r. ⌜ r ≡ lookOf (timetableIn (now (tables .entry))) europe second ⌝ }
 {
     look(tables, &Europe, second)
