@@ -8,7 +8,7 @@ use Rattle.std.proofs.shelf.Tests.{cases-lt, cond-both, leb-true}
 use Rattle.std.specs.shelf.Digits.{number, Under}
 use Rattle.store.specs.Cells.{StoreLaws}
 use Rattle.store.specs.Image.{Bytes, cellsFrom, imageCells}
-use Rattle.store.specs.Words.{wordCells, wordWidth}
+use Rattle.store.specs.Words.{wordCells, Words, wordWidth}
 use lib.Dec.{leb}
 use lib.ListN.{drop, getD, length, take}
 use mathlib.Core.Bool.{true}
