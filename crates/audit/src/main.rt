@@ -1,4 +1,6 @@
 // Standard input: an image and then a life, one call to a line. Standard output: each call with its answer, then the meter's look and an archive reader's.
+#![tactic(auto)]
+
 use life::audit;
 use std::io::{BufWriter, Read, Write};
 

@@ -1,4 +1,6 @@
 // Stored runs of the audit program: each is a length of four bytes, high byte first, and so many bytes of input.
+#![tactic(auto)]
+
 use life::audit;
 use std::io::{BufWriter, Read, Write};
 

@@ -1,4 +1,6 @@
 // The book of a history, kept from the cells at the making and the calls alone: no meter, no answers, no tickets.
+#![tactic(auto)]
+
 mod cells;
 mod time;
 

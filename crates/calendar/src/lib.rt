@@ -1,4 +1,6 @@
 // The Gregorian calendar of the meter: the table of month firsts, day numbers and dates.
+#![tactic(auto)]
+
 mod dates;
 mod months;
 

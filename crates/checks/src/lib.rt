@@ -1,4 +1,6 @@
 // The check of whole tables: four rules, and the first fault by rule and then by place.
+#![tactic(auto)]
+
 mod fault;
 mod rules;
 

@@ -1,4 +1,6 @@
 // The calendar chip: a clock that keeps a date and a time of day, in UTC.
+#![tactic(auto)]
+
 mod chip;
 mod moment;
 

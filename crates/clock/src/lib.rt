@@ -1,4 +1,6 @@
 // Clocks: what a clock means, the laws of all clocks, and the counter and the instant clock.
+#![tactic(auto)]
+
 mod counter;
 mod instant;
 mod laws;

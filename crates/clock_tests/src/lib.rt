@@ -1,4 +1,6 @@
 // Tests of the clocks at both ends of every kind.
+#![tactic(auto)]
+
 #[cfg(test)]
 mod chip;
 #[cfg(test)]

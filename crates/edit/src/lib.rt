@@ -1,4 +1,6 @@
 // An edit: at most 64 recorded cells with their new values, and the mark of a good check.
+#![tactic(auto)]
+
 mod edit;
 mod tables;
 

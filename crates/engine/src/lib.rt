@@ -1,4 +1,6 @@
 // The engine: a clock, a store and a rule, and the edit that stands open.
+#![tactic(auto)]
+
 mod edits;
 mod engine;
 mod look;

@@ -1,4 +1,6 @@
 // Tests of the engine, its edits, its work orders, and histories.
+#![tactic(auto)]
+
 #[cfg(test)]
 mod edits;
 #[cfg(test)]

@@ -1,4 +1,6 @@
 // The worked examples as one list: what is shown on one small table, from the definitions that every look is proved by.
+#![tactic(auto)]
+
 ghost use Rattle.examples.specs.Examples.{Examples};
 ghost use Rattle.examples.specs.Table.{cells, worked};
 ghost use Rattle.schedule.specs.Looks.{look_at};

@@ -1,4 +1,6 @@
 // What a program in another language may call: rules, dates, looks, work orders and whole lives, on numbers and slices.
+#![tactic(auto)]
+
 mod dates;
 mod fields;
 mod lives;

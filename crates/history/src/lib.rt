@@ -1,4 +1,6 @@
 // Any history of a meter: its calls in any order, the failing ones among them, and the book of them.
+#![tactic(auto)]
+
 mod calls;
 mod living;
 mod ticket;

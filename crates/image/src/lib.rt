@@ -1,4 +1,6 @@
 // The image: cells in sequence at the layout's widths in lent bytes, and the way from bytes to cells and back.
+#![tactic(auto)]
+
 mod bytes;
 mod codec;
 mod image;

@@ -1,4 +1,6 @@
 // Two general words, the least later number with a property and the first best of a list, and the keeper of the best.
+#![tactic(auto)]
+
 mod counts;
 mod keeper;
 mod minute;

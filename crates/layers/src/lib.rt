@@ -1,4 +1,6 @@
 // Clocks over clocks: the layer that vouches for a limited time, and a clock kept from being set.
+#![tactic(auto)]
+
 mod unset;
 mod vouching;
 

@@ -1,4 +1,6 @@
 // The layout of the cells: the field of each cell, its bytes and its values, and where a row, an event and a cell's bytes stand.
+#![tactic(auto)]
+
 mod cells;
 mod field;
 mod places;

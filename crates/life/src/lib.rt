@@ -1,4 +1,6 @@
 // A meter's life as text, one call to a line, and its audit: the life lived on a meter, and read again in the archive.
+#![tactic(auto)]
+
 mod auditing;
 mod reading;
 mod report;

@@ -1,4 +1,6 @@
 // An image and seconds in, a line for each look out.
+#![tactic(auto)]
+
 mod line;
 mod looks;
 mod seconds;

@@ -1,4 +1,6 @@
 // Local time: a second by an offset, the day and the second of the day on which it falls, and the weekday of a day.
+#![tactic(auto)]
+
 mod local;
 mod weekdays;
 

@@ -1,4 +1,6 @@
 // Work orders: a string of commands, its form, and what its bytes say.
+#![tactic(auto)]
+
 mod command;
 mod form;
 

@@ -1,4 +1,6 @@
 // Every refusal of the tariff clock, with its number and its words.
+#![tactic(auto)]
+
 mod refusal;
 mod shown;
 

@@ -1,4 +1,6 @@
 // Tests of what a look and a check go by: refusals, ranks, dates, forms of orders, cells and faults.
+#![tactic(auto)]
+
 #[cfg(test)]
 mod cells;
 #[cfg(test)]

@@ -1,4 +1,6 @@
 // Work orders on an engine: the commands of an order in turn, up to the first refusal.
+#![tactic(auto)]
+
 mod lent;
 mod running;
 mod stopped;

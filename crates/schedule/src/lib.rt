@@ -1,4 +1,6 @@
 // Which tariff: the row, the event and the last second of a look, over plain copied tables.
+#![tactic(auto)]
+
 mod answer;
 mod boundary;
 mod day;

@@ -1,4 +1,6 @@
 // Stores: a list of cells in handed-over memory, and the store of one cell to a word.
+#![tactic(auto)]
+
 mod entries;
 mod entry;
 mod lent;

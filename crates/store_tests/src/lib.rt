@@ -1,4 +1,6 @@
 // Tests of the layout, the stores and the image codec.
+#![tactic(auto)]
+
 #[cfg(test)]
 mod codec;
 #[cfg(test)]

@@ -1,4 +1,6 @@
 // Summer time: what a rule means, and the three rules.
+#![tactic(auto)]
+
 mod america;
 mod europe;
 mod none;

@@ -1,4 +1,6 @@
 // Each line of standard input asks a law at an offset and a second; each line out has whether summer time is in force, and its next change.
+#![tactic(auto)]
+
 use anyhow::{Context, anyhow};
 use std::io::{BufRead, BufReader, BufWriter, Write};
 use summer::{America, Europe, SummerRule};

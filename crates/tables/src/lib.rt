@@ -1,4 +1,6 @@
 // The tables that looks go by: zone, summer time, the rows and the events that count, made once from the cells.
+#![tactic(auto)]
+
 mod bits;
 mod event;
 mod filled;

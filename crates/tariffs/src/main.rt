@@ -1,4 +1,6 @@
 // Standard input: an image and then seconds. Standard output: a line for each second.
+#![tactic(auto)]
+
 use lines::write_lines;
 use std::io;
 use std::io::{BufWriter, Read, Write};

@@ -1,4 +1,6 @@
 // Stored runs of the tariffs program: each is a length of four bytes, high byte first, and so many bytes of input.
+#![tactic(auto)]
+
 use lines::write_lines;
 use std::io;
 use std::io::{BufWriter, Read, Write};

@@ -1,4 +1,6 @@
 // A ticket that is spent on every way out. Without the line of the Discard the checker refuses this program: .ci/tickets tries that.
+#![tactic(auto)]
+
 use clock::CounterClock;
 use engine::Engine;
 use std::io;

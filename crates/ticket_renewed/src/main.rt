@@ -1,4 +1,6 @@
 // A Put with a new ticket. With the spent one in its place the checker refuses this program: .ci/tickets tries that.
+#![tactic(auto)]
+
 use clock::CounterClock;
 use engine::Engine;
 use std::io;
