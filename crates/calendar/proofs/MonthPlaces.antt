@@ -79,17 +79,17 @@ module _ (n : ℤ) (y m d : ℕ) (i : IsDate n y m d) where
   pub same_length : length_at (y * 12 + m - 23640) ≡ length_of y m
   unfolding length_at
   same_length =
-      let p = i.month-from in let q = i.month-to in let b = i.begun in
+      let p = i.month_from in let q = i.month_to in let b = i.begun in
       let e : 1969 + (y * 12 + m - 23640 + 11) / 12 ≡ y = omega arith in
       let f : (y * 12 + m - 23640 + 11) % 12 + 1 ≡ m = omega arith in
       rw (e, f)
 
   pub from_first : first_of (y * 12 + m - 23640) ≤ℤ n
-  from_first = let e = i.number in let p = i.day-from in omega (arith, ints)
+  from_first = let e = i.number in let p = i.day_from in omega (arith, ints)
 
   pub to_next : n <ℤ first_of (y * 12 + m - 23640 + 1)
   to_next =
-      let e = i.number in let p = i.day-to in let q = same_length in
+      let e = i.number in let p = i.day_to in let q = same_length in
       let f = next (y * 12 + m - 23640) in omega (arith, ints)
 
 pub only : (n : ℤ) (y m d y' m' d' : ℕ) → IsDate n y m d → IsDate n y' m' d' → (y ≡ y') × (m ≡ m') × (d ≡ d')
@@ -97,7 +97,7 @@ only n y m d y' m' d' i j =
     let k : y * 12 + m - 23640 ≡ y' * 12 + m' - 23640 =
     one_month n _ _ (from_first n y m d i) (to_next n y m d i) (from_first n y' m' d' j) (to_next n y' m' d' j) in
     let e : first_of (y * 12 + m - 23640) ≡ first_of (y' * 12 + m' - 23640) = ap first_of k in
-    let p = i.month-from in let q = i.month-to in let b = i.begun in let a = i.number in
+    let p = i.month_from in let q = i.month-to in let b = i.begun in let a = i.number in
     let p' = j.month-from in let q' = j.month-to in let b' = j.begun in let a' = j.number in
     (omega arith, omega arith, omega (arith, ints))
 
@@ -145,7 +145,7 @@ pub no_day : (n : ℤ) (y m d k : ℕ) → k ≡ y * 12 + m - 23640 → ((first_
 no_day n y m d k e h i =
     let f = next (y * 12 + m - 23640) in
     let l = same_length n y m d i in
-    let t = i.day-to in
+    let t = i.day_to in
     let g : (first_of (y * 12 + m - 23640 + 1) -ℤ first_of (y * 12 + m - 23640)) <ℤ pos d = rw (← e) h in
     omega (arith, ints)
 

@@ -7,23 +7,23 @@ use refusal::Refusal;
 
 // Puts each entry in turn, and answers the first refusal, if any. A refused entry changes nothing, and the next one is put.
 pub fn put_each<S: Store>(store: &mut S, entries: &[Entry]) -> Result<(), Refusal>
-    ensures answer { result ≡ puts_answer (cells store.old) (width store.old) entries.now }
-    ensures after { cells store.new ≡ puts_cells (cells store.old) (width store.old) entries.now }
-    ensures range { InRange entries.now → cells store.new ≡ overwritten (cells store.old) entries.now }
-    ensures same { width store.new ≡ width store.old }
-    ensures memory { rest store.new ≡ rest store.old }
-    ensures home { home store.new ≡ home store.old }
+    ensures answer { result ≡ puts_answer (S.cells store.old) (S.width store.old) entries.now }
+    ensures after { S.cells store.new ≡ puts_cells (S.cells store.old) (S.width store.old) entries.now }
+    ensures range { InRange entries.now → S.cells store.new ≡ overwritten (S.cells store.old) entries.now }
+    ensures same { S.width store.new ≡ S.width store.old }
+    ensures memory { S.rest store.new ≡ S.rest store.old }
+    ensures home { S.home store.new ≡ S.home store.old }
 {
     put_in_turn(store, entries)
 }
 
 fn put_in_turn<S: Store>(store: &mut S, entries: &[Entry]) -> Result<(), Refusal>
-    ensures answer { result ≡ puts_answer (cells store.old) (width store.old) entries.now }
-    ensures after { cells store.new ≡ puts_cells (cells store.old) (width store.old) entries.now }
-    ensures range { InRange entries.now → cells store.new ≡ overwritten (cells store.old) entries.now }
-    ensures same { width store.new ≡ width store.old }
-    ensures memory { rest store.new ≡ rest store.old }
-    ensures home { home store.new ≡ home store.old }
+    ensures answer { result ≡ puts_answer (S.cells store.old) (S.width store.old) entries.now }
+    ensures after { S.cells store.new ≡ puts_cells (S.cells store.old) (S.width store.old) entries.now }
+    ensures range { InRange entries.now → S.cells store.new ≡ overwritten (S.cells store.old) entries.now }
+    ensures same { S.width store.new ≡ S.width store.old }
+    ensures memory { S.rest store.new ≡ S.rest store.old }
+    ensures home { S.home store.new ≡ S.home store.old }
 {
     let mut outcome = Ok(());
     for entry in entries {

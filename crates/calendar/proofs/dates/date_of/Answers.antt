@@ -14,8 +14,8 @@ overflow-cast-date c = let w = within c.place-of-place.result _ c.place-of-place
 
 pub returns : goal.returns
 returns c =
-    let w = within c.place-of-place.result _ c.place-of-place.ensures.open in
-    let date = found c.args.day c.place-of-place.result _ (omega (arith, ints)) (omega (arith, ints)) (omega (arith, ints)) in (
+    let w = within c.place_of-place.result _ c.place_of-place.ensures.open in
+    let date = found c.args.day c.place_of-place.result _ (omega (arith, ints)) (omega (arith, ints)) (omega (arith, ints)) in (
       record { from = omega (arith, ints); to = omega (arith, ints) },
       date,
       (λ y m d i. only c.args.day y m d _ _ _ i date),

@@ -4,4 +4,4 @@ use Rattle.layout.specs.Layout.{field_of}
 
 pub returns : goal.returns
 unfolding field_of
-returns c = record { answer = c.field-at.ensures; positions = positions }
+returns c = record { answer = c.field_at.ensures; positions = positions }

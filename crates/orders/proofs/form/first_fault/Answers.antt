@@ -40,4 +40,4 @@ loop-command-smaller c =
 pub returns : goal.returns
 returns c =
     let r = c.loop-command.rest.now in
-    sym (ap fault_of (reads_end (length c.args.order.now - length r) r c.in-default.ensures)) ∙ c.loop-command.invariant.1
+    sym (ap fault_of (reads_end (length c.args.order.now - length r) r c.in_default.ensures)) ∙ c.loop-command.invariant.1

@@ -9,7 +9,7 @@ pub returns : goal.returns
 unfolding word_cells word_rest
 returns c =
     let m = c.args.memory.now in
-    let after : c.into-words.result.now ≡ puts_cells (word_cells m) word_width c.args.entries.now ++ word_rest m = search rules in
+    let after : c.into_words.result.now ≡ puts_cells (word_cells m) word_width c.args.entries.now ++ word_rest m = search rules in
     record {
       answer = search rules;
       memory = after;

@@ -5,7 +5,7 @@ use Rattle.std.proofs.Common.{sym, ◌∙◌}
 
 pub returns : goal.returns
 returns c = record {
-  answer = c.in-field.ensures;
-  fits = λ h. field_fits c.args.self c.args.v (sym c.in-field.ensures ∙ h);
+  answer = c.in_field.ensures;
+  fits = λ h. field_fits c.args.self c.args.v (sym c.in_field.ensures ∙ h);
   masks = mask_ranges c.args.v;
 }

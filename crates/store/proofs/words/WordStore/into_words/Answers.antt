@@ -7,7 +7,7 @@ use Rattle.std.proofs.Common.{sym, ◌∙◌}
 pub returns : goal.returns
 unfolding word_cells word_rest
 returns c = record {
-  same = c.taken-apart.ensures.answer;
-  memory = c.taken-apart.ensures.answer ∙ sym (take-append-drop cell_count c.args.self.words.now);
-  home = c.taken-apart.ensures.home;
+  same = c.taken_apart.ensures.answer;
+  memory = c.taken_apart.ensures.answer ∙ sym (take-append-drop cell_count c.args.self.words.now);
+  home = c.taken_apart.ensures.home;
 }
