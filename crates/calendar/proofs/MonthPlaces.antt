@@ -97,8 +97,8 @@ only n y m d y' m' d' i j =
     let k : y * 12 + m - 23640 ≡ y' * 12 + m' - 23640 =
     one_month n _ _ (from_first n y m d i) (to_next n y m d i) (from_first n y' m' d' j) (to_next n y' m' d' j) in
     let e : first_of (y * 12 + m - 23640) ≡ first_of (y' * 12 + m' - 23640) = ap first_of k in
-    let p = i.month_from in let q = i.month-to in let b = i.begun in let a = i.number in
-    let p' = j.month-from in let q' = j.month-to in let b' = j.begun in let a' = j.number in
+    let p = i.month_from in let q = i.month_to in let b = i.begun in let a = i.number in
+    let p' = j.month_from in let q' = j.month_to in let b' = j.begun in let a' = j.number in
     (omega arith, omega arith, omega (arith, ints))
 
 -- what the way back cites: the month at a place k has a first and an end within the calendar

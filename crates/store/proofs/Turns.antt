@@ -51,8 +51,8 @@ module _ (w : ℕ → ℕ) (cs : List ℕ) (es : List Entry) (i : ℕ) (h : leng
   answer_end o = sym (and_ok o) ∙ sym (ap (λ (x : List Entry). result_and o (puts_answer cs w x)) (drop_all i es h))
 
 -- entries in range fit, so each is written, or has no cell
-pub in_range : (w : ℕ → ℕ) → ((c v : ℕ) → in_range c v ≡ true → v < 256 ^ w c) → (cs : List ℕ) (es : List Entry) → InRange es → puts_cells cs w es ≡ overwritten cs es
-in_range w fits cs [] h = refl
-in_range w fits cs (e ∷ es) h =
+pub in_range_lem : (w : ℕ → ℕ) → ((c v : ℕ) → in_range c v ≡ true → v < 256 ^ w c) → (cs : List ℕ) (es : List Entry) → InRange es → puts_cells cs w es ≡ overwritten cs es
+in_range_lem w fits cs [] h = refl
+in_range_lem w fits cs (e ∷ es) h =
     ap (λ (x : List ℕ). puts_cells x w es) (put_fits cs w e.cell e.value (fits e.cell e.value h.0))
-    ∙ in_range w fits (set cs e.cell e.value) es h.1
+    ∙ in_range_lem w fits (set cs e.cell e.value) es h.1

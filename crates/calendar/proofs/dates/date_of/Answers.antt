@@ -3,14 +3,14 @@ use borrow.Author.Differences.{ints}
 use Rattle.calendar.proofs.MonthPlaces.{within, found, only}
 use Rattle.calendar.proofs.dates.date_of.Goals as goal
 
-pub overflow-sub-date : goal.overflow-sub-date
-overflow-sub-date c = let w = within c.place-of-place.result _ c.place-of-place.ensures.open in omega (arith, ints)
+pub overflow_sub-date : goal.overflow_sub-date
+overflow_sub-date c = let w = within c.place_of-place.result _ c.place_of-place.ensures.open in omega (arith, ints)
 
-pub overflow-add-date : goal.overflow-add-date
-overflow-add-date c = let w = within c.place-of-place.result _ c.place-of-place.ensures.open in omega (arith, ints)
+pub overflow_add-date : goal.overflow_add-date
+overflow_add-date c = let w = within c.place_of-place.result _ c.place_of-place.ensures.open in omega (arith, ints)
 
-pub overflow-cast-date : goal.overflow-cast-date
-overflow-cast-date c = let w = within c.place-of-place.result _ c.place-of-place.ensures.open in (omega (arith, ints), omega (arith, ints))
+pub overflow_cast-date : goal.overflow_cast-date
+overflow_cast-date c = let w = within c.place_of-place.result _ c.place_of-place.ensures.open in (omega (arith, ints), omega (arith, ints))
 
 pub returns : goal.returns
 returns c =

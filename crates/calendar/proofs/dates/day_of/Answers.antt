@@ -18,8 +18,8 @@ returns-then-months-lt23640 c = (
       ],
 )
 
-pub overflow-sub-end : goal.overflow-sub-end
-overflow-sub-end c = let b = bounds (place c.args.date) (omega arith) in omega (arith, ints)
+pub overflow_sub-end : goal.overflow_sub-end
+overflow_sub-end c = let b = bounds (place c.args.date) (omega arith) in omega (arith, ints)
 
 pub returns-then-day-lt1 : goal.returns-then-day-lt1
 returns-then-day-lt1 c = (
@@ -33,8 +33,8 @@ returns-then-day-lt1 c = (
       ],
 )
 
-pub overflow-add-result : goal.overflow-add-result
-overflow-add-result c = let b = bounds (place c.args.date) (omega arith) in omega (arith, ints)
+pub overflow_add-result : goal.overflow_add-result
+overflow_add-result c = let b = bounds (place c.args.date) (omega arith) in omega (arith, ints)
 
 pub returns : goal.returns
 returns c =

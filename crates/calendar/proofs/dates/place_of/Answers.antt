@@ -3,8 +3,8 @@ use borrow.Author.Differences.{ints}
 use Rattle.calendar.proofs.MonthPlaces.{later_first, earlier_first}
 use Rattle.calendar.proofs.dates.place_of.Goals as goal
 
-pub overflow-sub-place : goal.overflow-sub-place
-overflow-sub-place c = later_first c.back.place c.args.day (omega (arith, ints)) (omega (arith, ints))
+pub overflow_sub-place : goal.overflow_sub-place
+overflow_sub-place c = later_first c.back.place c.args.day (omega (arith, ints)) (omega (arith, ints))
 
 pub back-smaller : goal.back-smaller
 back-smaller c = let h = later_first c.back.place c.args.day (omega (arith, ints)) (omega (arith, ints)) in omega arith

@@ -34,7 +34,7 @@ unfolding found
 loop-p-preserved c =
     let t = reading c.args.t.now in
     let p = c.loop-p.p in
-    ap (λ (o : Option Fault). or_else o (found t (event_places (numbers (p + 1) (17 - (p + 1)))))) c.in-default.ensures ∙ sym (split t p (omega arith)) ∙ c.loop-p.invariant
+    ap (λ (o : Option Fault). or_else o (found t (event_places (numbers (p + 1) (17 - (p + 1)))))) c.in_default.ensures ∙ sym (split t p (omega arith)) ∙ c.loop-p.invariant
 
 pub returns : goal.returns
 unfolding found

@@ -34,17 +34,17 @@ returns-in-Some c =
     let t = reading c.args.t.now in
     ap (λ (o : Option Fault). or_else o (rest_1 t)) c.in-Some.ensures ∙ sym (split t)
 
-pub returns-in-Some-bad-row : goal.returns-in-Some-bad-row
-returns-in-Some-bad-row c =
+pub returns-in-Some-bad_row : goal.returns-in-Some-bad_row
+returns-in-Some-bad_row c =
     let t = reading c.args.t.now in
-    at_1 t (Some c.in-Some-bad-row.f) (ap (λ (o : Option Fault). or_else o (rest_2 t)) c.in-Some-bad-row.ensures) c.in-default.ensures
+    at_1 t (Some c.in-Some-bad_row.f) (ap (λ (o : Option Fault). or_else o (rest_2 t)) c.in-Some-bad_row.ensures) c.in_default.ensures
 
-pub returns-in-Some-bad-plan : goal.returns-in-Some-bad-plan
-returns-in-Some-bad-plan c =
+pub returns-in-Some-bad_plan : goal.returns-in-Some-bad_plan
+returns-in-Some-bad_plan c =
     let t = reading c.args.t.now in
-    at_2 t (Some c.in-Some-bad-plan.f) (ap (λ (o : Option Fault). or_else o (found t (event_places (numbers 1 plan_count)))) c.in-Some-bad-plan.ensures) c.in-default-bad-row.ensures c.in-default.ensures
+    at_2 t (Some c.in-Some-bad_plan.f) (ap (λ (o : Option Fault). or_else o (found t (event_places (numbers 1 plan_count)))) c.in-Some-bad_plan.ensures) c.in_default-bad_row.ensures c.in_default.ensures
 
 pub returns : goal.returns
 returns c =
     let t = reading c.args.t.now in
-    at_2 t c.bad-event.result (c.bad-event.ensures ∙ ap (λ (o : Option Fault). or_else o (found t (event_places (numbers 1 plan_count)))) c.in-default-bad-plan.ensures) c.in-default-bad-row.ensures c.in-default.ensures
+    at_2 t c.bad_event.result (c.bad_event.ensures ∙ ap (λ (o : Option Fault). or_else o (found t (event_places (numbers 1 plan_count)))) c.in_default-bad_plan.ensures) c.in_default-bad_row.ensures c.in_default.ensures

@@ -4,4 +4,4 @@ use Rattle.checks.proofs.Firsts.{first_means}
 use Rattle.checks.proofs.rules.first_fault.Goals as goal
 
 pub returns : goal.returns
-returns c = record { answer = c.fault-in.ensures; first = first_means (good (reading c.args.t.now)) places }
+returns c = record { answer = c.fault_in.ensures; first = first_means (good (reading c.args.t.now)) places }

@@ -8,14 +8,14 @@ use Rattle.checks.proofs.rules.plan_counts.Goals as goal
 pub loop-e-init : goal.loop-e-init
 loop-e-init c = refl
 
-pub returns-then-counts-in : goal.returns-then-counts-in
+pub returns-then-counts_in : goal.returns-then-counts_in
 unfolding plan_counts
-returns-then-counts-in c =
-    sym (passes_here (counts (reading c.args.t.now) c.args.p) c.loop-e.e 13 (omega arith) (sym c.if-counts-in.ensures)) ∙ c.loop-e.invariant
+returns-then-counts_in c =
+    sym (passes_here (counts (reading c.args.t.now) c.args.p) c.loop-e.e 13 (omega arith) (sym c.if-counts_in.ensures)) ∙ c.loop-e.invariant
 
 pub loop-e-preserved : goal.loop-e-preserved
 loop-e-preserved c =
-    sym (passes_later (counts (reading c.args.t.now) c.args.p) c.loop-e.e 13 (omega arith) (sym c.if-counts-in.ensures)) ∙ c.loop-e.invariant
+    sym (passes_later (counts (reading c.args.t.now) c.args.p) c.loop-e.e 13 (omega arith) (sym c.if-counts_in.ensures)) ∙ c.loop-e.invariant
 
 pub returns : goal.returns
 unfolding plan_counts

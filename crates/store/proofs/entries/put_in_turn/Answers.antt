@@ -1,5 +1,5 @@
 use Rattle.std.proofs.Common.{◌<◌, length, ◌∙◌, arith}
-use Rattle.store.proofs.Turns.{answer_end, answer_turn, cells_end, cells_turn, in_range}
+use Rattle.store.proofs.Turns.{answer_end, answer_turn, cells_end, cells_turn, in_range_lem}
 use Rattle.store.proofs.entries.put_in_turn.Goals as goal
 
 pub loop-entry-preserved : goal.loop-entry-preserved
@@ -26,7 +26,7 @@ returns g c =
     record {
       answer = answer_end w cs c.args.entries.now c.loop-entry.entry-index (omega arith) c.loop-entry.outcome ∙ i.4;
       after = after;
-      range = λ h. after ∙ in_range w (g.S.Store.laws.range c.args.store.now) _ c.args.entries.now h;
+      range = λ h. after ∙ in_range_lem w (g.S.Store.laws.range c.args.store.now) _ c.args.entries.now h;
       same = i.0;
       memory = i.1;
       home = i.2;

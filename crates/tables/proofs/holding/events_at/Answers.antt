@@ -13,7 +13,7 @@ past : (plans : List DayPlan) (p : ℕ) → length plans ≤ p → [] ≡ get_or
 past plans p h = sym (get_or_past (map events_in plans) p [] (simp length-map h))
 
 pub returns-then-place-plans : goal.returns-then-place-plans
-returns-then-place-plans c = c.as-slice.ensures.answer ∙ (ap events_in c.index-plans-place.is ∙ at c.args.plans.now c.args.place _ (omega arith))
+returns-then-place-plans c = c.as_slice.ensures.answer ∙ (ap events_in c.index-plans-place.is ∙ at c.args.plans.now c.args.place _ (omega arith))
 
 pub returns-else-place-plans : goal.returns-else-place-plans
 returns-else-place-plans c = past c.args.plans.now c.args.place (omega arith)

@@ -3,4 +3,4 @@ use Rattle.tables.proofs.holding.events_in.Goals as goal
 
 pub returns : goal.returns
 unfolding events_of
-returns c = c.events-at.ensures
+returns c = c.events_at.ensures

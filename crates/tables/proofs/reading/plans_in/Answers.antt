@@ -19,7 +19,7 @@ pub loop-p-preserved : goal.loop-p-preserved
 loop-p-preserved c =
     let n : length c.loop-p.plans ≡ 17 = c.loop-p.invariant.0 in (
       simp length-set n,
-      more (plan_at (cell_at c.args.cells.now)) c.loop-p.plans c.loop-p.p c.plan-in.result (omega arith) c.plan-in.ensures c.loop-p.invariant.1,
+      more (plan_at (cell_at c.args.cells.now)) c.loop-p.plans c.loop-p.p c.plan_in.result (omega arith) c.plan_in.ensures c.loop-p.invariant.1,
     )
 
 pub returns : goal.returns

@@ -7,7 +7,7 @@ use Rattle.tables.proofs.reading.read.Goals as goal
 pub returns : goal.returns
 unfolding timetable
 returns c =
-    let west = c.offset-of.ensures.west in
-    let east = c.offset-of.ensures.east in
-    let offset : to_z w32 (of_z w32 c.offset-of.result) ≡ c.offset-of.result = omega (arith, ints) in
+    let west = c.offset_of.ensures.west in
+    let east = c.offset_of.ensures.east in
+    let offset : to_z w32 (of_z w32 c.offset_of.result) ≡ c.offset_of.result = omega (arith, ints) in
     record { answer = cc; alike = same_cells }
