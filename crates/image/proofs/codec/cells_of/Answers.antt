@@ -6,14 +6,14 @@ use Rattle.std.proofs.Common.{◌∙◌, arith, rules}
 
 pub loop-c-preserved : goal.loop-c-preserved
 loop-c-preserved c =
-    decode_turn (image_cells c.args.image.now) _ _ c.loop-c.c c.read-cell.result (omega arith)
-    c.loop-c.invariant c.read-cell.ensures c.in-ok-push.ensures.items
+    decode_turn (image_cells c.args.image.now) _ _ c.loop-c.c c.read_cell.result (omega arith)
+    c.loop-c.invariant c.read_cell.ensures c.in_ok-push.ensures.items
 
-pub returns-in-err-push : goal.returns-in-err-push
-returns-in-err-push c = record { answer = search rules; trip = whole c.args.image.now (λ k. (c.type-inv.image k).fits) }
+pub returns-in_err-push : goal.returns-in_err-push
+returns-in_err-push c = record { answer = search rules; trip = whole c.args.image.now (λ k. (c.type_inv.image k).fits) }
 
 pub returns : goal.returns
 returns c = record {
   answer = c.loop-c.invariant ∙ take_all c.loop-c.c (image_cells c.args.image.now) (omega arith);
-  trip = whole c.args.image.now (λ k. (c.type-inv.image k).fits);
+  trip = whole c.args.image.now (λ k. (c.type_inv.image k).fits);
 }

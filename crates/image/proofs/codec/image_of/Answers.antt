@@ -15,10 +15,10 @@ unfolding word_cells
 loop-c-preserved c =
     let l = length-take cell_count c.args.cells.now in
     encode_turn (word_cells c.args.cells.now) _ _ c.loop-c.c c.width.result _ (omega arith)
-    c.loop-c.invariant c.width.ensures.answer (sym (get_or-take cell_count c.args.cells.now c.loop-c.c 0 (omega arith))) c.in-ok-push-number.ensures
+    c.loop-c.invariant c.width.ensures.answer (sym (get_or-take cell_count c.args.cells.now c.loop-c.c 0 (omega arith))) c.in_ok-push_number.ensures
 
-pub returns-in-err-push-number : goal.returns-in-err-push-number
-returns-in-err-push-number c = record { answer = search rules; trip = faithful _ }
+pub returns-in_err-push_number : goal.returns-in_err-push_number
+returns-in_err-push_number c = record { answer = search rules; trip = faithful _ }
 
 pub returns : goal.returns
 unfolding word_cells

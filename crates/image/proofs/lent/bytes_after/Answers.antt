@@ -8,7 +8,7 @@ use Rattle.std.proofs.Common.{◌≡◌, ℕ, List, ◌++◌, ap, ◌∙◌, sub
 pub returns : goal.returns
 returns c =
     let m = c.args.memory.now in
-    let after : c.into-bytes.result.now ≡ image_of (puts_cells (image_cells m) width c.args.entries.now) ++ image_rest m = search rules in
+    let after : c.into_bytes.result.now ≡ image_of (puts_cells (image_cells m) width c.args.entries.now) ++ image_rest m = search rules in
     let each : Bytes m = c.new-store.ensures.each in
     record {
       answer = search rules;

@@ -4,11 +4,11 @@ use Rattle.image.proofs.Digits.{read_more, read_small}
 use Rattle.image.proofs.numbers.read_number.Goals as goal
 use Rattle.std.proofs.Common.{ap, ◌∙◌, arith, rules}
 
-pub overflow-mul-v : goal.overflow-mul-v
-overflow-mul-v c = let s = read_small c.loop-b.b-index c.loop-b.v (omega arith) c.loop-b.invariant.1 in omega arith
+pub overflow_mul-v : goal.overflow_mul-v
+overflow_mul-v c = let s = read_small c.loop-b.b-index c.loop-b.v (omega arith) c.loop-b.invariant.1 in omega arith
 
-pub overflow-add-v : goal.overflow-add-v
-overflow-add-v c = let s = read_small c.loop-b.b-index c.loop-b.v (omega arith) c.loop-b.invariant.1 in omega arith
+pub overflow_add-v : goal.overflow_add-v
+overflow_add-v c = let s = read_small c.loop-b.b-index c.loop-b.v (omega arith) c.loop-b.invariant.1 in omega arith
 
 pub loop-b-preserved : goal.loop-b-preserved
 loop-b-preserved c = read_more c.args.part.now c.loop-b.b-index c.loop-b.v c.from.result (omega arith) (search rules) (search rules) c.loop-b.invariant.0 c.loop-b.invariant.1

@@ -5,34 +5,34 @@ use Rattle.summer.proofs.yearly.next_end.Goals as goal
 
 pub returns-then-y-eq136 : goal.returns-then-y-eq136
 returns-then-y-eq136 g c =
-    let cur = moved (pos c.args.second +ℤ c.args.offset) c.year-of-y.ensures (omega (arith, ints)) in
-    sym (none_left g.L.Yearly.from g.L.Yearly.until g.met.L.Yearly.ascending c.args.offset c.args.second c.year-of-y.result cur
+    let cur = moved (pos c.args.second +ℤ c.args.offset) c.year_of-y.ensures (omega (arith, ints)) in
+    sym (none_left g.L.Yearly.from g.L.Yearly.until g.met.L.Yearly.ascending c.args.offset c.args.second c.year_of-y.result cur
     0 4294967295 (omega (arith, ints)) c.if-y-eq136.true (omega arith))
 
-pub second-of-requires : goal.second-of-requires
-second-of-requires g c =
+pub second_of-requires : goal.second_of-requires
+second_of-requires g c =
     let a = g.met.L.Yearly.ascending in
-    let f = c.year-of-y.ensures.few in
-    let n = a.near in let o = a.opens c.year-of-y.result in
-    let u = until_le g.L.Yearly.from g.L.Yearly.until a c.year-of-y.result 135 (omega arith) in
+    let f = c.year_of-y.ensures.few in
+    let n = a.near in let o = a.opens c.year_of-y.result in
+    let u = until_le g.L.Yearly.from g.L.Yearly.until a c.year_of-y.result 135 (omega arith) in
     record { from = omega (arith, ints); to = omega (arith, ints) }
 
 pub returns-then-t-first : goal.returns-then-t-first
 returns-then-t-first g c =
-    let cur = moved (pos c.args.second +ℤ c.args.offset) c.year-of-y.ensures (omega (arith, ints)) in
-    sym (start_at g.L.Yearly.from g.L.Yearly.until g.met.L.Yearly.ascending c.args.offset c.args.second c.year-of-y.result cur
-    c.second-of.result 4294967295 (omega (arith, ints)) (omega (arith, ints)) (omega (arith, ints)) (omega arith))
+    let cur = moved (pos c.args.second +ℤ c.args.offset) c.year_of-y.ensures (omega (arith, ints)) in
+    sym (start_at g.L.Yearly.from g.L.Yearly.until g.met.L.Yearly.ascending c.args.offset c.args.second c.year_of-y.result cur
+    c.second_of.result 4294967295 (omega (arith, ints)) (omega (arith, ints)) (omega (arith, ints)) (omega arith))
 
-pub second-of-requires-2 : goal.second-of-requires-2
-second-of-requires-2 g c =
+pub second_of-requires-2 : goal.second_of-requires-2
+second_of-requires-2 g c =
     let a = g.met.L.Yearly.ascending in
-    let f = c.year-of-y.ensures.few in
-    let n = a.near in let h = c.year-of-y.ensures.here in
-    let u = until_le g.L.Yearly.from g.L.Yearly.until a c.year-of-y.result 135 (omega arith) in
+    let f = c.year_of-y.ensures.few in
+    let n = a.near in let h = c.year_of-y.ensures.here in
+    let u = until_le g.L.Yearly.from g.L.Yearly.until a c.year_of-y.result 135 (omega arith) in
     record { from = omega (arith, ints); to = omega (arith, ints) }
 
 pub returns : goal.returns
 returns g c =
-    let cur = moved (pos c.args.second +ℤ c.args.offset) c.year-of-y.ensures (omega (arith, ints)) in
-    sym (end_at g.L.Yearly.from g.L.Yearly.until g.met.L.Yearly.ascending c.args.offset c.args.second c.year-of-y.result cur
-    c.second-of-2.result 4294967295 (omega (arith, ints)) (omega (arith, ints)) (omega (arith, ints)) (omega arith))
+    let cur = moved (pos c.args.second +ℤ c.args.offset) c.year_of-y.ensures (omega (arith, ints)) in
+    sym (end_at g.L.Yearly.from g.L.Yearly.until g.met.L.Yearly.ascending c.args.offset c.args.second c.year_of-y.result cur
+    c.second_of-2.result 4294967295 (omega (arith, ints)) (omega (arith, ints)) (omega (arith, ints)) (omega arith))

@@ -3,8 +3,8 @@ use Rattle.std.proofs.lemmas.Bool.Decides.{nat_tests}
 use Rattle.chip.specs.Moments.{date_at, year_at_lem, second_back}
 use Rattle.chip.proofs.moment.Moment.at.Goals as goal
 
-pub invariant-of-result : goal.invariant-of-result
-invariant-of-result c =
+pub invariant_of-result : goal.invariant_of-result
+invariant_of-result c =
     let y = year_at_lem c.args.second _ _ _ (omega arith, omega arith) c.in-Ok.ensures.1 in
     let i = date_at c.args.second _ _ _ (omega arith, omega arith) c.in-Ok.ensures.1 in
     (y, ((i.month-from, i.month-to), ((i.day-from, i.day-to), (omega arith, (omega arith, (omega arith, tt))))))

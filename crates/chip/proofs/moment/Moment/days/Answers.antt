@@ -7,8 +7,8 @@ use Rattle.chip.proofs.moment.Moment.days.Goals as goal
 pub unreachable-requires : goal.unreachable-requires
 unreachable-requires c = c.in-Err.ensures.1 _ (moment_in_days c.args.self.now) (moment_dated c.args.self.now)
 
-pub overflow-cast-result : goal.overflow-cast-result
-overflow-cast-result c =
+pub overflow_cast-result : goal.overflow_cast-result
+overflow_cast-result c =
     let e = moment_numbered c.args.self.now c.in-Ok.days c.in-Ok.ensures.1 in
     let w = moment_days c.args.self.now in
     (grind (arith, ints), grind (arith, ints))

@@ -9,12 +9,12 @@ use Rattle.edit.proofs.edit.Edit.put.Goals as goal
 drafted : List Entry → Draft
 drafted es = record { entries = es; marked = false }
 
-pub invariant-of-self : goal.invariant-of-self
-invariant-of-self c =
+pub invariant_of-self : goal.invariant_of-self
+invariant_of-self c =
     let e = c.args.self.now in
     let new = entry c.args.c c.args.v in
     let lt : c.find-i.result < length e.table = omega (arith, e.whole, e.few) in
-    let fit = range_fits c.args.c c.args.v (sym c.if-not-in-range.ensures.answer) in
+    let fit = range_fits c.args.c c.args.v (sym c.if-not-in_range.ensures.answer) in
     (length-set e.table c.find-i.result new ∙ e.whole, (e.few, (fits_set e.count c.find-i.result e.table new lt fit e.fits, tt)))
 
 pub returns-then-i-self : goal.returns-then-i-self
@@ -25,7 +25,7 @@ returns-then-i-self c =
     let t = e.table in
     let d : Draft = draft_at n t e.checked in
     let new = entry c.args.c c.args.v in
-    let range = sym c.if-not-in-range.ensures.answer in
+    let range = sym c.if-not-in_range.ensures.answer in
     let long : n ≤ length t = omega (arith, e.whole, e.few) in
     let old : place_in (take n t) c.args.c < length (take n t) = omega (arith, front_length t n long, c.find-i.ensures.at) in
     let moved : take n (set t c.find-i.result new) ≡ set (take n t) (place_in (take n t) c.args.c) new = take-set-lt n t c.find-i.result new c.if-i-self.true ∙ ap (λ (k : ℕ). set (take n t) k new) c.find-i.ensures.at in
@@ -40,7 +40,7 @@ returns-then-self-ge-MOST c =
     let n = e.count in
     let t = e.table in
     let d : Draft = draft_at n t e.checked in
-    let range = sym c.if-not-in-range.ensures.answer in
+    let range = sym c.if-not-in_range.ensures.answer in
     let long : n ≤ length t = omega (arith, e.whole, e.few) in
     let none : length (take n t) ≤ place_in (take n t) c.args.c = omega (arith, front_length t n long, c.find-i.ensures.at) in
     let full : 64 ≤ length (take n t) = omega (arith, front_length t n long) in
@@ -49,14 +49,14 @@ returns-then-self-ge-MOST c =
       after = sym (full_draft d c.args.c c.args.v range none full);
     }
 
-pub invariant-of-self-2 : goal.invariant-of-self-2
-invariant-of-self-2 c =
+pub invariant_of-self-2 : goal.invariant_of-self-2
+invariant_of-self-2 c =
     let e = c.args.self.now in
     let i = c.find-i.result in
     let new = entry c.args.c c.args.v in
     let same : e.count ≡ i = omega (arith, c.find-i.ensures.within) in
     let lt : i < length e.table = omega (arith, e.whole) in
-    let fit = range_fits c.args.c c.args.v (sym c.if-not-in-range.ensures.answer) in
+    let fit = range_fits c.args.c c.args.v (sym c.if-not-in_range.ensures.answer) in
     (length-set e.table i new ∙ e.whole, (omega arith, (fits_push i e.table new lt fit (λ k h. e.fits k (omega arith)), tt)))
 
 pub returns : goal.returns
@@ -68,7 +68,7 @@ returns c =
     let i = c.find-i.result in
     let d : Draft = draft_at n t e.checked in
     let new = entry c.args.c c.args.v in
-    let range = sym c.if-not-in-range.ensures.answer in
+    let range = sym c.if-not-in_range.ensures.answer in
     let long : n ≤ length t = omega (arith, e.whole, e.few) in
     let none : length (take n t) ≤ place_in (take n t) c.args.c = omega (arith, front_length t n long, c.find-i.ensures.at) in
     let free : length (take n t) < 64 = omega (arith, front_length t n long) in

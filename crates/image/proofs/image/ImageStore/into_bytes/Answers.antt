@@ -4,7 +4,7 @@ use Rattle.std.proofs.Common.{sym, ◌∙◌}
 
 pub returns : goal.returns
 returns c = record {
-  same = c.taken-apart.ensures.answer;
-  memory = c.taken-apart.ensures.answer ∙ sym (whole c.args.self.bytes.now c.known.ensures);
-  home = c.taken-apart.ensures.home;
+  same = c.taken_apart.ensures.answer;
+  memory = c.taken_apart.ensures.answer ∙ sym (whole c.args.self.bytes.now c.known.ensures);
+  home = c.taken_apart.ensures.home;
 }

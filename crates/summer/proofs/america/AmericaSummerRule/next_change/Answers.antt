@@ -8,5 +8,5 @@ use Rattle.summer.proofs.america.AmericaSummerRule.next_change.Goals as goal
 
 pub returns : goal.returns
 returns c =
-    let e = to_z-of_z w64 c.zone-of.result (record { sfits = c.zone-of.type-inv }) ∙ c.zone-of.ensures.value ∙ ap zone (to_z-of_z w32 c.args.offset c.ranges.offset) in
-    c.next-end.ensures ∙ ap (λ (z : ℤ). least_later (changes (λ s. summer_at america_from america_until (pos s +ℤ z))) c.args.second 4294967295) e
+    let e = to_z-of_z w64 c.zone_of.result (record { sfits = c.zone_of.type_inv }) ∙ c.zone_of.ensures.value ∙ ap zone (to_z-of_z w32 c.args.offset c.ranges.offset) in
+    c.next_end.ensures ∙ ap (λ (z : ℤ). least_later (changes (λ s. summer_at america_from america_until (pos s +ℤ z))) c.args.second 4294967295) e
