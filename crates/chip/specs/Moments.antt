@@ -60,7 +60,7 @@ in_years k y m d w i =
     let t = to_next (pos k) y m d i in
     let o = opens in
     let e = closes in
-    let p = i.month-from in let q = i.month-to in let b = i.begun in
+    let p = i.month_from in let q = i.month_to in let b = i.begun in
     let early : y ≤ 1999 → ⊥ = λ h. let c = climbs (place_of y m + 1) 361 (omega arith) in omega (arith, ints) in
     let late : 2100 ≤ y → ⊥ = λ h. let c = climbs 1561 (place_of y m) (omega arith) in omega (arith, ints) in
     (omega arith, omega arith)
@@ -97,6 +97,6 @@ module _ (s y m d : ℕ) (within : Within 946684800 s 4102444799) (found : IsDat
   unfolding seconds_to
   second_back =
       let i = date_at in
-      let e = numbered y m d year_at_lem (i.month-from, i.month-to) (i.day-from, i.day-to) (pos (s / 86400)) i in
+      let e = numbered y m d year_at_lem (i.month_from, i.month_to) (i.day_from, i.day_to) (pos (s / 86400)) i in
       let n : days_to y m d ≡ s / 86400 = omega (arith, ints) in
       omega arith

@@ -87,7 +87,7 @@ impl Edit {
 
     // The first fault of the tables as they would stand after the commit.
     pub fn fault_in<S: Store>(&self, store: &S) -> Option<Fault>
-        ensures { result ≡ first_fault (reading (overwritten (cells store.now) (take self.now.count self.now.table))) }
+        ensures { result ≡ first_fault (reading (overwritten (S.cells store.now) (take self.now.count self.now.table))) }
     {
         let mut t = copied(store);
         let size = store.size();
@@ -102,10 +102,10 @@ impl Edit {
 
     // Writes each entry into the store, and nothing else.
     pub fn write_into<S: Store>(&self, store: &mut S)
-        ensures after { cells store.new ≡ overwritten (cells store.old) (take self.now.count self.now.table) }
-        ensures same { width store.new ≡ width store.old }
-        ensures memory { rest store.new ≡ rest store.old }
-        ensures home { home store.new ≡ home store.old }
+        ensures after { S.cells store.new ≡ overwritten (S.cells store.old) (take self.now.count self.now.table) }
+        ensures same { S.width store.new ≡ S.width store.old }
+        ensures memory { S.rest store.new ≡ S.rest store.old }
+        ensures home { S.home store.new ≡ S.home store.old }
     {
         for i in 0..self.count {
             let e = self.table[i];

@@ -5,7 +5,7 @@ use store::Store;
 
 // A cell, or 0 past the size.
 fn cell_or_zero<S: Store>(store: &S, c: u32) -> u32
-    ensures { result ≡ slice_index (cells store.now) c }
+    ensures { result ≡ slice_index (S.cells store.now) c }
 {
     match store.get(c) {
         Ok(v) => v,
@@ -15,7 +15,7 @@ fn cell_or_zero<S: Store>(store: &S, c: u32) -> u32
 
 // A store's cells, copied; a cell past the size reads 0.
 pub fn copied<S: Store>(store: &S) -> [u32; 706]
-    ensures { reading result ≡ reading (cells store.now) }
+    ensures { reading result ≡ reading (S.cells store.now) }
 {
     let mut t = [0u32; 706];
     for c in 0..706usize {

@@ -1,7 +1,13 @@
-use Rattle.std.proofs.Common.{◌≡◌, ◌<◌, ◌≤◌, pos, ◌+ℤ◌, sym, ap, arith}
+use Rattle.std.proofs.Common.{◌≡◌, ◌<◌, ◌≤◌, ℕ, ℤ, pos, ◌+ℤ◌, ◌≤ℤ◌, sym, ap, arith}
 use borrow.Author.Differences.{ints}
 use Rattle.summer.proofs.Spans.{moved, until_le, none_left, start_at, end_at}
 use Rattle.summer.proofs.yearly.next_end.Goals as goal
+
+small : (z : ℤ) → z ≤ℤ pos 43200 → (pos 4294967295 +ℤ z) ≤ℤ pos 4295010496
+small z h = omega (arith, ints)
+
+in_limit : (n : ℕ) → n < 4294967296 → n ≤ 4294967295
+in_limit n h = omega arith
 
 pub returns-then-y-eq136 : goal.returns-then-y-eq136
 returns-then-y-eq136 g c =
@@ -33,6 +39,10 @@ second_of-requires-2 g c =
 
 pub returns : goal.returns
 returns g c =
-    let cur = moved (pos c.args.second +ℤ c.args.offset) c.year_of-y.ensures (omega (arith, ints)) in
-    sym (end_at g.L.Yearly.from g.L.Yearly.until g.met.L.Yearly.ascending c.args.offset c.args.second c.year_of-y.result cur
-    c.second_of-2.result 4294967295 (omega (arith, ints)) (omega (arith, ints)) (omega (arith, ints)) (omega arith))
+    let t = pos c.args.second +ℤ c.args.offset in
+    let y = c.year_of-y.result in
+    let warm : pos (g.L.Yearly.from y) ≤ℤ t = omega (arith, ints) in
+    let end : pos c.second_of-2.result +ℤ c.args.offset ≡ pos (g.L.Yearly.until y) = omega (arith, ints) in
+    let cur = moved t c.year_of-y.ensures (omega (arith, ints)) in
+    sym (end_at g.L.Yearly.from g.L.Yearly.until g.met.L.Yearly.ascending c.args.offset c.args.second y cur
+    c.second_of-2.result 4294967295 (small c.args.offset c.requires.to) warm end (in_limit c.second_of-2.result c.second_of-2.type_inv))

@@ -7,7 +7,7 @@ pub invariant_of-result : goal.invariant_of-result
 invariant_of-result c =
     let y = year_at_lem c.args.second _ _ _ (omega arith, omega arith) c.in-Ok.ensures.1 in
     let i = date_at c.args.second _ _ _ (omega arith, omega arith) c.in-Ok.ensures.1 in
-    (y, ((i.month-from, i.month-to), ((i.day-from, i.day-to), (omega arith, (omega arith, (omega arith, tt))))))
+    record { years = y; months = (i.month_from, i.month_to); days = (i.day_from, i.day_to); hours = omega arith; minutes = omega arith; seconds = omega arith }
 
 pub returns : goal.returns
 returns c =

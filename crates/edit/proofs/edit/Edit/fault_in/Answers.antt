@@ -39,6 +39,6 @@ pub returns : goal.returns
 returns g c =
     let all : c.loop-i.i ≡ c.args.self.now.count = omega arith in
     let cs = g.S.Store.cells c.args.store.now in
-    c.first-fault.ensures.answer
+    c.first_fault.ensures.answer
     ∙ ap first_fault (λ i k. c.loop-i.invariant.1 k i)
     ∙ ap (λ (n : ℕ). first_fault (reading (overwritten cs (take n c.args.self.now.table)))) all

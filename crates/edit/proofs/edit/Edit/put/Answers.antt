@@ -15,7 +15,7 @@ invariant_of-self c =
     let new = entry c.args.c c.args.v in
     let lt : c.find-i.result < length e.table = omega (arith, e.whole, e.few) in
     let fit = range_fits c.args.c c.args.v (sym c.if-not-in_range.ensures.answer) in
-    (length-set e.table c.find-i.result new ∙ e.whole, (e.few, (fits_set e.count c.find-i.result e.table new lt fit e.fits, tt)))
+    record { whole = length-set e.table c.find-i.result new ∙ e.whole; few = e.few; fits = fits_set e.count c.find-i.result e.table new lt fit e.fits }
 
 pub returns-then-i-self : goal.returns-then-i-self
 unfolding drafted
@@ -57,7 +57,7 @@ invariant_of-self-2 c =
     let same : e.count ≡ i = omega (arith, c.find-i.ensures.within) in
     let lt : i < length e.table = omega (arith, e.whole) in
     let fit = range_fits c.args.c c.args.v (sym c.if-not-in_range.ensures.answer) in
-    (length-set e.table i new ∙ e.whole, (omega arith, (fits_push i e.table new lt fit (λ k h. e.fits k (omega arith)), tt)))
+    record { whole = length-set e.table i new ∙ e.whole; few = omega arith; fits = fits_push i e.table new lt fit (λ k h. e.fits k (omega arith)) }
 
 pub returns : goal.returns
 unfolding drafted
