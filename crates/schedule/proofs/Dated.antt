@@ -35,7 +35,7 @@ module _ (d : ℤ) (y m k : ℕ) (i : IsDate d y m k) (h : InDays d) where
 
   pub month_is : month_of d ≡ m
   unfolding month_of
-  month_is = let a = i.month-from in let b = i.month-to in let c = i.begun in ap month_before next_month_lem ∙ omega arith
+  month_is = let a = i.month_from in let b = i.month_to in let c = i.begun in ap month_before next_month_lem ∙ omega arith
 
   pub date_is : date_of d ≡ k
   unfolding date_of

@@ -8,4 +8,4 @@ all [] = refl
 all (e ∷ es) = ap (λ (xs : List Event). e ∷ xs) (all es)
 
 pub returns : goal.returns
-returns c = c.latest-until.ensures ∙ ap latest_of (all c.args.events.now)
+returns c = c.latest_until.ensures ∙ ap latest_of (all c.args.events.now)

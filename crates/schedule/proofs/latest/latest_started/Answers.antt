@@ -3,4 +3,4 @@ use Rattle.schedule.proofs.latest.latest_started.Goals as goal
 
 pub returns : goal.returns
 unfolding started_by
-returns c = c.latest-until.ensures
+returns c = c.latest_until.ensures

@@ -6,9 +6,9 @@ use Rattle.schedule.proofs.looking.event_in_force.Goals as goal
 
 pub returns-in-Some : goal.returns-in-Some
 returns-in-Some c =
-    started (timetable_in c.args.tables.now) c.args.day c.args.time c.args.plan _ c.requires.today c.events-of.ensures.answer c.in-Some.event c.in-Some.ensures
+    started (timetable_in c.args.tables.now) c.args.day c.args.time c.args.plan _ c.requires.today c.events_of.ensures.answer c.in-Some.event c.in-Some.ensures
 
 pub returns-in-None : goal.returns-in-None
 returns-in-None c =
-    opened (timetable_in c.args.tables.now) c.args.day c.args.time c.args.plan _ c.requires.today c.events-of.ensures.answer c.opening-event.result
-    _ c.opening-event.ensures (omega (arith, ints)) c.in-None.ensures
+    opened (timetable_in c.args.tables.now) c.args.day c.args.time c.args.plan _ c.requires.today c.events_of.ensures.answer c.opening_event.result
+    _ c.opening_event.ensures (omega (arith, ints)) c.in-None.ensures

@@ -10,6 +10,6 @@ returns g c =
     let west = c.args.tables.now.west in
     let east = c.args.tables.now.east in
     let zone : to_z w32 (of_z w32 c.args.tables.now.offset) ≡ c.args.tables.now.offset = omega (arith, ints) in
-    let most = bounded c.args.second (to_z w32 (of_z w32 c.args.tables.now.offset)) c.in-summer.result c.ranges.second.fits (omega (arith, ints)) (omega (arith, ints)) in
-    let same : to_z w64 (of_z w64 c.local-time.result) ≡ c.local-time.result = omega (arith, ints) in
+    let most = bounded c.args.second (to_z w32 (of_z w32 c.args.tables.now.offset)) c.in_summer.result c.ranges.second.fits (omega (arith, ints)) (omega (arith, ints)) in
+    let same : to_z w64 (of_z w64 c.local_time.result) ≡ c.local_time.result = omega (arith, ints) in
     record { answer = cc; from = omega (arith, ints); to = omega (arith, ints) }

@@ -7,7 +7,7 @@ use Rattle.keeper.proofs.Offering.{offered, offer_taken, offer_left, offer_all, 
 use Rattle.schedule.specs.RowInForce.{fits, best_row}
 use Rattle.tables.specs.declared.row.Row.{Row}
 use Rattle.schedule.proofs.row_in_force.best_row.Goals as goal
-use Rattle.schedule.proofs.row_in_force.best_row.Goals.{then-fits-day, else-fits-day}
+use Rattle.schedule.proofs.row_in_force.best_row.Goals.{then-fits_day, else-fits_day}
 
 abbrev better : Counts → Counts → Bool
 better x y = fewer x.months x.dates x.weekdays y.months y.dates y.weekdays
@@ -20,20 +20,20 @@ loop-r-init c = c.new-narrowest.ensures.answer
 
 pub loop-r-preserved : goal.loop-r-preserved
 loop-r-preserved c =
-    elim c.if-fits-day.branch [
-      | then-fits-day w ↦
+    elim c.if-fits_day.branch [
+      | then-fits_day w ↦
           ap (λ k. k.best) w.narrowest-is
           ∙ (w.offer.ensures.after _ c.loop-r.invariant
-          ∙ ap (first_best (ranked better)) (offer_taken (own counts_of) (fits c.args.day.month c.args.day.weekday c.args.day.date) c.args.rows.now c.loop-r.r-index _ c.loop-r-test.true (sym w.if-fits-day.ensures)))
-      | else-fits-day w ↦
+          ∙ ap (first_best (ranked better)) (offer_taken (own counts_of) (fits c.args.day.month c.args.day.weekday c.args.day.date) c.args.rows.now c.loop-r.r-index _ c.loop-r-test.true (sym w.if-fits_day.ensures)))
+      | else-fits_day w ↦
           ap (λ k. k.best) w.narrowest-is
           ∙ (c.loop-r.invariant
-          ∙ ap (first_best (ranked better)) (offer_left (own counts_of) (fits c.args.day.month c.args.day.weekday c.args.day.date) c.args.rows.now c.loop-r.r-index _ c.loop-r-test.true (sym w.if-fits-day.ensures)))
+          ∙ ap (first_best (ranked better)) (offer_left (own counts_of) (fits c.args.day.month c.args.day.weekday c.args.day.date) c.args.rows.now c.loop-r.r-index _ c.loop-r-test.true (sym w.if-fits_day.ensures)))
     ]
 
 pub returns : goal.returns
 unfolding best_row
 returns c =
-    c.best-place.ensures.answer
+    c.best_place.ensures.answer
     ∙ (ap place_of (c.loop-r.invariant ∙ ap (first_best (ranked better)) (offer_all (own counts_of) (fits c.args.day.month c.args.day.weekday c.args.day.date) c.args.rows.now c.loop-r.r-index c.loop-r-test.false))
     ∙ best_own better counts_of _)
