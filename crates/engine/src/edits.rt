@@ -14,8 +14,8 @@ use summer::SummerRule;
 impl<C: Clock, S: Store, R: SummerRule> Engine<C, S, R> {
     // Opens an edit, and hands out a ticket for it.
     pub fn open(&mut self) -> Result<Ticket, Refusal>
-        ensures answer { opened result ≡ answer (state_of cells self.old) Open }
-        ensures after { state_of cells self.new ≡ step (state_of cells self.old) Open }
+        ensures answer { opened result ≡ answer (state_of S.cells self.old) Open }
+        ensures after { state_of S.cells self.new ≡ step (state_of S.cells self.old) Open }
         ensures same { OnlyEdit self.old self.new }
     {
         if self.edit.is_some() {
@@ -27,8 +27,8 @@ impl<C: Clock, S: Store, R: SummerRule> Engine<C, S, R> {
 
     // Records a value for a cell in the open edit.
     pub fn put(&mut self, _ticket: &Ticket, c: u32, v: u32) -> Result<(), Refusal>
-        ensures answer { result ≡ answer (state_of cells self.old) (Put c v) }
-        ensures after { state_of cells self.new ≡ step (state_of cells self.old) (Put c v) }
+        ensures answer { result ≡ answer (state_of S.cells self.old) (Put c v) }
+        ensures after { state_of S.cells self.new ≡ step (state_of S.cells self.old) (Put c v) }
         ensures same { OnlyEdit self.old self.new }
     {
         let Some(mut edit) = self.edit else {
@@ -44,8 +44,8 @@ impl<C: Clock, S: Store, R: SummerRule> Engine<C, S, R> {
 
     // Examines the tables as they would stand after the commit, and marks a good edit.
     pub fn check(&mut self) -> Result<(), Refusal>
-        ensures answer { result ≡ answer (state_of cells self.old) Check }
-        ensures after { state_of cells self.new ≡ step (state_of cells self.old) Check }
+        ensures answer { result ≡ answer (state_of S.cells self.old) Check }
+        ensures after { state_of S.cells self.new ≡ step (state_of S.cells self.old) Check }
         ensures same { OnlyEdit self.old self.new }
     {
         let Some(mut edit) = self.edit else {
@@ -66,11 +66,11 @@ impl<C: Clock, S: Store, R: SummerRule> Engine<C, S, R> {
 
     // Writes a checked edit into the store and closes it; an unchecked one is discarded.
     pub fn commit(&mut self, ticket: Ticket) -> Result<(), Refusal>
-        ensures answer { result ≡ answer (state_of cells self.old) Commit }
-        ensures after { state_of cells self.new ≡ step (state_of cells self.old) Commit }
-        ensures same { OnlyCells (width) self.old self.new }
-        ensures memory { rest self.new.store ≡ rest self.old.store }
-        ensures home { home self.new.store ≡ home self.old.store }
+        ensures answer { result ≡ answer (state_of S.cells self.old) Commit }
+        ensures after { state_of S.cells self.new ≡ step (state_of S.cells self.old) Commit }
+        ensures same { OnlyCells (S.width) self.old self.new }
+        ensures memory { S.rest self.new.store ≡ S.rest self.old.store }
+        ensures home { S.home self.new.store ≡ S.home self.old.store }
     {
         ticket.spend();
         match self.edit.take() {
@@ -87,8 +87,8 @@ impl<C: Clock, S: Store, R: SummerRule> Engine<C, S, R> {
 
     // Closes the edit unwritten.
     pub fn discard(&mut self, ticket: Ticket) -> Result<(), Refusal>
-        ensures answer { result ≡ answer (state_of cells self.old) Discard }
-        ensures after { state_of cells self.new ≡ step (state_of cells self.old) Discard }
+        ensures answer { result ≡ answer (state_of S.cells self.old) Discard }
+        ensures after { state_of S.cells self.new ≡ step (state_of S.cells self.old) Discard }
         ensures same { OnlyEdit self.old self.new }
     {
         ticket.spend();
@@ -97,8 +97,8 @@ impl<C: Clock, S: Store, R: SummerRule> Engine<C, S, R> {
 
     // Closes an open edit without a ticket.
     pub fn clear(&mut self) -> Result<(), Refusal>
-        ensures answer { result ≡ answer (state_of cells self.old) Discard }
-        ensures after { state_of cells self.new ≡ step (state_of cells self.old) Discard }
+        ensures answer { result ≡ answer (state_of S.cells self.old) Discard }
+        ensures after { state_of S.cells self.new ≡ step (state_of S.cells self.old) Discard }
         ensures same { OnlyEdit self.old self.new }
     {
         match self.edit.take() {

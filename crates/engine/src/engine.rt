@@ -50,7 +50,7 @@ impl<C: Clock, S: Store, R: SummerRule> Engine<C, S, R> {
 
     // What a cell holds.
     pub fn get(&self, c: u32) -> Result<u32, Refusal>
-        ensures { result ≡ get_answer (cells self.now.store) c }
+        ensures { result ≡ get_answer (S.cells self.now.store) c }
     {
         self.store.get(c)
     }

@@ -14,7 +14,7 @@ use tables::Tables;
 
 // The tables of a store's cells, made once for many looks.
 pub fn tables_of<S: Store>(store: &S) -> Tables
-    ensures { timetable_in result ≡ timetable (cell_at (cells store.now)) }
+    ensures { timetable_in result ≡ timetable (cell_at (S.cells store.now)) }
 {
     let cells = copied(store);
     Tables::new(&cells)
@@ -23,7 +23,7 @@ pub fn tables_of<S: Store>(store: &S) -> Tables
 impl<C: Clock, S: Store, R: SummerRule> Engine<C, S, R> {
     // The eight fields at the clock's time, or a refusal without a time. It changes nothing.
     pub fn look(&self) -> Result<Look, Refusal>
-        ensures { result ≡ look_answer (in_force self.now.rule) (cells self.now.store) (time self.now.clock) }
+        ensures { result ≡ look_answer (R.in_force self.now.rule) (S.cells self.now.store) (C.time self.now.clock) }
     {
         match self.clock.read() {
             Some(second) => Ok(look(&tables_of(&self.store), &self.rule, second)),

@@ -5,9 +5,9 @@ use std::test::Fail;
 fn there_and_back(rt: HostRuntime) -> Result<(), Fail> {
     let heap = rt.alloc();
     let image = encode(heap, &[46800, 1, 8190])?;
-    assert_eq!(rt; image.as_slice(), &[0, 0, 182, 208, 1, 31, 254]);
+    assert_eq!(rt; image.as_slice(), [0, 0, 182, 208, 1, 31, 254].as_slice());
     let cells = decode(heap, &image)?;
-    assert_eq!(rt; cells.as_slice(), &[46800, 1, 8190]);
+    assert_eq!(rt; cells.as_slice(), [46800, 1, 8190].as_slice());
     Ok(())
 }
 
