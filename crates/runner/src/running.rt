@@ -19,7 +19,7 @@ fn perform<C: Clock, S: Store, R: SummerRule>(
     tail: &[u8],
 ) -> Ending
     requires { (length tail.now < len) × (fault_of (reads_on (len - length tail.now) tail.now) ≡ None) }
-    ensures ended { Ended (state_of cells engine.old) (reads_on (len - length tail.now) tail.now) result (state_of cells engine.new) }
+    ensures ended { Ended (state_of S.cells engine.old) (reads_on (len - length tail.now) tail.now) result (state_of S.cells engine.new) }
     ensures same { OnlyEdit engine.old engine.new }
 {
     let mut left = tail;
@@ -52,11 +52,11 @@ pub fn run<C: Clock, S: Store, R: SummerRule>(
     engine: &mut Engine<C, S, R>,
     order: &[u8],
 ) -> Result<(), Stopped>
-    ensures answer { result ≡ ran_answer (state_of cells engine.old) order.now }
-    ensures after { state_of cells engine.new ≡ ran (state_of cells engine.old) order.now }
-    ensures same { OnlyCells (width) engine.old engine.new }
-    ensures memory { rest engine.new.store ≡ rest engine.old.store }
-    ensures home { home engine.new.store ≡ home engine.old.store }
+    ensures answer { result ≡ ran_answer (state_of S.cells engine.old) order.now }
+    ensures after { state_of S.cells engine.new ≡ ran (state_of S.cells engine.old) order.now }
+    ensures same { OnlyCells (S.width) engine.old engine.new }
+    ensures memory { S.rest engine.new.store ≡ S.rest engine.old.store }
+    ensures home { S.home engine.new.store ≡ S.home engine.old.store }
 {
     if let Some(place) = fault(order) {
         return Err(Stopped {
@@ -81,11 +81,11 @@ fn finish<C: Clock, S: Store, R: SummerRule>(
     t: Ticket,
     ending: Ending,
 ) -> Result<(), Stopped>
-    ensures answer { result ≡ finish_answer (state_of cells engine.old) ending }
-    ensures after { state_of cells engine.new ≡ finish_state (state_of cells engine.old) ending }
-    ensures same { OnlyCells (width) engine.old engine.new }
-    ensures memory { rest engine.new.store ≡ rest engine.old.store }
-    ensures home { home engine.new.store ≡ home engine.old.store }
+    ensures answer { result ≡ finish_answer (state_of S.cells engine.old) ending }
+    ensures after { state_of S.cells engine.new ≡ finish_state (state_of S.cells engine.old) ending }
+    ensures same { OnlyCells (S.width) engine.old engine.new }
+    ensures memory { S.rest engine.new.store ≡ S.rest engine.old.store }
+    ensures home { S.home engine.new.store ≡ S.home engine.old.store }
 {
     match ending {
         Ending::Commit(place) => placed(place, engine.commit(t)),

@@ -8,7 +8,7 @@ use Rattle.runner.proofs.Commands.{then_same, committed, discarded, closed_answe
 use Rattle.runner.proofs.running.perform.Goals as goal
 
 pub unreachable-requires : goal.unreachable-requires
-unreachable-requires g c = sound_some (c.args.len - length c.loop-command.left.now) c.loop-command.left.now c.loop-command.invariant.1 c.in-default.ensures
+unreachable-requires g c = sound_some (c.args.len - length c.loop-command.left.now) c.loop-command.left.now c.loop-command.invariant.1 c.in_default.ensures
 
 pub unreachable-requires-in-Open : goal.unreachable-requires-in-Open
 unreachable-requires-in-Open g c =
@@ -25,15 +25,15 @@ loop-command-preserved g c =
     let next = c.in-Some.next.now in
     let k = c.in-Some.command in
     let within : length left ≤ len = omega (arith, i.0) in
-    let p = c.in-default-check.ensures in (
+    let p = c.in_default-check.ensures in (
       omega (arith, i.0, next_shorter len left next k Check e.0 e.1 c.in-Check.is within i.1),
       next_sound len left next k Check e.0 e.1 c.in-Check.is within i.1 refl,
       turn len left next k Check e.0 e.1 c.in-Check.is within i.1 (state_of g.S.Store.cells c.loop-command.engine) i.2 (state_of g.S.Store.cells c.check.new.self) refl p.answer p.after,
       then_same {c = c.check.new.self} i.3 c.check.ensures.same,
     )
 
-pub loop-command-preserved-in-default-put : goal.loop-command-preserved-in-default-put
-loop-command-preserved-in-default-put g c =
+pub loop-command-preserved-in_default-put : goal.loop-command-preserved-in_default-put
+loop-command-preserved-in_default-put g c =
     let e = c.in-Some.ensures in
     let i = c.loop-command.invariant in
     let len = c.args.len in
@@ -41,7 +41,7 @@ loop-command-preserved-in-default-put g c =
     let next = c.in-Some.next.now in
     let k = c.in-Some.command in
     let within : length left ≤ len = omega (arith, i.0) in
-    let p = c.in-default-put.ensures in
+    let p = c.in_default-put.ensures in
     let now : Command = Put c.in-Put.c c.in-Put.v in (
       omega (arith, i.0, next_shorter len left next k now e.0 e.1 c.in-Put.is within i.1),
       next_sound len left next k now e.0 e.1 c.in-Put.is within i.1 refl,

@@ -10,26 +10,26 @@ use Rattle.runner.proofs.Commands.{then_same, cells_too, edit_then_cells, tail_s
 use Rattle.runner.proofs.running.run.Goals as goal
 
 pub unreachable-requires : goal.unreachable-requires
-unreachable-requires g c = sound_some 0 c.args.order.now (sym c.in-default.ensures.answer) c.in-default-next-command.ensures
+unreachable-requires g c = sound_some 0 c.args.order.now (sym c.in_default.ensures.answer) c.in_default-next_command.ensures
 
 pub perform-ending-requires : goal.perform-ending-requires
 perform-ending-requires g c =
-    let e = c.in-Some-next-command.ensures in
+    let e = c.in-Some-next_command.ensures in
     let order = c.args.order.now in
-    let tail = c.in-Some-next-command.tail.now in
-    let k = c.in-Some-next-command.field-0-0 in
-    let sound = sym c.in-default.ensures.answer in (
+    let tail = c.in-Some-next_command.tail.now in
+    let k = c.in-Some-next_command.field-0-0 in
+    let sound = sym c.in_default.ensures.answer in (
       tail_shorter order tail k e.0 e.1 sound,
       tail_sound order tail k e.0 e.1 sound,
     )
 
 pub returns-in-Err : goal.returns-in-Err
 returns-in-Err g c =
-    let e = c.in-Some-next-command.ensures in
+    let e = c.in-Some-next_command.ensures in
     let order = c.args.order.now in
-    let tail = c.in-Some-next-command.tail.now in
-    let k = c.in-Some-next-command.field-0-0 in
-    let sound = sym c.in-default.ensures.answer in
+    let tail = c.in-Some-next_command.tail.now in
+    let k = c.in-Some-next_command.field-0-0 in
+    let sound = sym c.in_default.ensures.answer in
     let s = state_of g.S.Store.cells c.args.engine.now in
     let u = state_of g.S.Store.cells c.open.new.self in
     let p = c.in-Err.ensures in
@@ -43,11 +43,11 @@ returns-in-Err g c =
 
 pub returns : goal.returns
 returns g c =
-    let e = c.in-Some-next-command.ensures in
+    let e = c.in-Some-next_command.ensures in
     let order = c.args.order.now in
-    let tail = c.in-Some-next-command.tail.now in
-    let k = c.in-Some-next-command.field-0-0 in
-    let sound = sym c.in-default.ensures.answer in
+    let tail = c.in-Some-next_command.tail.now in
+    let k = c.in-Some-next_command.field-0-0 in
+    let sound = sym c.in_default.ensures.answer in
     let s = state_of g.S.Store.cells c.args.engine.now in
     let u = state_of g.S.Store.cells c.open.new.self in
     let p = c.in-Ok.ensures in
