@@ -66,7 +66,7 @@ pub fn perform<C: SettableClock, S: Store, R: SummerRule>(
     engine: &mut Engine<C, S, R>,
     call: Call,
 ) -> Answer
-    ensures { Turned (kind_of C.SettableClock.first C.SettableClock.last C.SettableClock.span_for) (meaning C.Clock.time C.Clock.span cells rest home in_force engine.old) call.entry (meaning C.Clock.time C.Clock.span cells rest home in_force engine.new) result }
+    ensures { Turned (kind_of C.SettableClock.first C.SettableClock.last C.SettableClock.span_for) (meaning C.Clock.time C.Clock.span S.cells S.rest S.home R.in_force engine.old) call.entry (meaning C.Clock.time C.Clock.span S.cells S.rest S.home R.in_force engine.new) result }
 {
     match call {
         Call::Look => seen(engine.look()),
@@ -98,7 +98,7 @@ pub fn live<C: SettableClock, S: Store, R: SummerRule>(
     answers: &mut [Answer],
 ) -> usize
     ensures answer { result ≡ min (length calls.now) (length answers.old) }
-    ensures lived { Lived (kind_of C.SettableClock.first C.SettableClock.last C.SettableClock.span_for) (meaning C.Clock.time C.Clock.span cells rest home in_force engine.old) (take result calls.now) (meaning C.Clock.time C.Clock.span cells rest home in_force engine.new) (take result answers.new) }
+    ensures lived { Lived (kind_of C.SettableClock.first C.SettableClock.last C.SettableClock.span_for) (meaning C.Clock.time C.Clock.span S.cells S.rest S.home R.in_force engine.old) (take result calls.now) (meaning C.Clock.time C.Clock.span S.cells S.rest S.home R.in_force engine.new) (take result answers.new) }
     ensures same { drop result answers.new ≡ drop result answers.old }
 {
     let n = calls.len().min(answers.len());
