@@ -31,9 +31,9 @@ fn kept_in<'a>(words: &'a mut [u32], calls: &[Call]) -> &'a mut [u32]
 }
 
 fn enter_each<C: SettableClock, S: Store, R: SummerRule>(book: &mut Engine<C, S, R>, calls: &[Call])
-    ensures book { state_of cells book.new ≡ kept (state_of cells book.old) calls.now }
-    ensures memory { rest book.new.store ≡ rest book.old.store }
-    ensures home { home book.new.store ≡ home book.old.store }
+    ensures book { state_of S.cells book.new ≡ kept (state_of S.cells book.old) calls.now }
+    ensures memory { S.rest book.new.store ≡ S.rest book.old.store }
+    ensures home { S.home book.new.store ≡ S.home book.old.store }
 {
     for i in 0..calls.len() {
         enter(book, calls[i]);
@@ -42,9 +42,9 @@ fn enter_each<C: SettableClock, S: Store, R: SummerRule>(book: &mut Engine<C, S,
 
 // Enters one call. What it answers is let go: a book is not fed answers.
 fn enter<C: SettableClock, S: Store, R: SummerRule>(book: &mut Engine<C, S, R>, call: Call)
-    ensures book { state_of cells book.new ≡ step (state_of cells book.old) call.entry }
-    ensures memory { rest book.new.store ≡ rest book.old.store }
-    ensures home { home book.new.store ≡ home book.old.store }
+    ensures book { state_of S.cells book.new ≡ step (state_of S.cells book.old) call.entry }
+    ensures memory { S.rest book.new.store ≡ S.rest book.old.store }
+    ensures home { S.home book.new.store ≡ S.home book.old.store }
 {
     let _ = perform(book, call);
 }

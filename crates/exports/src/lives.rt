@@ -111,7 +111,7 @@ fn live_each<C: SettableClock, S: Store, R: SummerRule>(
     answers: &mut [Told],
 ) -> usize
     ensures answer { result ≡ min (length steps.now) (length answers.old) }
-    ensures acted { Acted (kind_of C.SettableClock.first C.SettableClock.last C.SettableClock.span_for) (meaning C.Clock.time C.Clock.span cells rest home in_force engine.old) (calls_of orders.now (take result steps.now)) (meaning C.Clock.time C.Clock.span cells rest home in_force engine.new) (take result answers.new) }
+    ensures acted { Acted (kind_of C.SettableClock.first C.SettableClock.last C.SettableClock.span_for) (meaning C.Clock.time C.Clock.span S.cells S.rest S.home R.in_force engine.old) (calls_of orders.now (take result steps.now)) (meaning C.Clock.time C.Clock.span S.cells S.rest S.home R.in_force engine.new) (take result answers.new) }
     ensures same { drop result answers.new ≡ drop result answers.old }
 {
     let n = steps.len().min(answers.len());
