@@ -1,5 +1,5 @@
 -- A meter and a reader that are alike look alike.
-use Rattle.std.proofs.Common.{◌≡◌, ℕ, ◌+◌, ◌-◌, ◌≤◌, List, Some, None, Ok, Err, Option, Result, sym, refl, ap, ◌∙◌, subst, arith}
+use Rattle.std.proofs.Common.{◌≡◌, ℕ, ◌+◌, ◌-◌, ◌≤◌, List, Some, None, Ok, Option, Result, sym, refl, ap, ◌∙◌, subst, arith}
 use Rattle.refusal.specs.declared.refusal.Refusal.{Refusal}
 use Rattle.clock.specs.Time.{Sound}
 use Rattle.tables.specs.Cells.{cell_at, timetable}

@@ -1,9 +1,8 @@
 -- The first that fails, and whether one passes, counted through.
 use Rattle.layout.specs.Layout.{event_count}
-use Rattle.std.proofs.Common.{◌≡◌, ℕ, zero, suc, ◌+◌, ◌-◌, ◌<◌, ◌≤◌, Bool, true, false, cond, ◌||◌, List, [], ◌∷◌, ◌++◌, map, length, get_or, Some, None, Option, sym, refl, ap, ◌∙◌, arith}
-use Rattle.std.specs.List.{range_with_len}
+use Rattle.std.proofs.Common.{◌≡◌, ℕ, zero, suc, ◌+◌, ◌-◌, ◌<◌, ◌≤◌, Bool, true, false, cond, List, [], ◌∷◌, ◌++◌, map, length, get_or, Some, None, Option, refl, ap, ◌∙◌, arith}
 use Rattle.checks.specs.Words.{numbers, first_failing, some, map_option, IsFirst}
-use Rattle.checks.specs.Rules.{Place, event_places}
+use Rattle.checks.specs.Rules.{event_places}
 use Rattle.checks.specs.Rules.Place.{event_at}
 
 numbers_suc : (a n : ℕ) → numbers a (suc n) ≡ a ∷ numbers (a + 1) n

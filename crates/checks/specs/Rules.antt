@@ -1,5 +1,5 @@
 -- The rules that committed tables keep, and the first fault of some tables. Assumes nothing.
-use Rattle.std.specs.Prelude.{ℕ, ◌+◌, ◌-◌, Bool, true, false, not, ◌&&◌, ◌||◌, List, [], ◌∷◌, ◌++◌, map, Option, ◌==◌}
+use Rattle.std.specs.Prelude.{ℕ, ◌+◌, ◌-◌, Bool, not, ◌&&◌, ◌||◌, List, [], ◌∷◌, ◌++◌, map, Option, ◌==◌}
 use Rattle.layout.specs.Layout.{in_range, row_cell, event_cell, event_counts, start_minute, cell_count, row_count, plan_count, event_count}
 use Rattle.checks.specs.declared.fault.Fault.{Fault}
 use Rattle.checks.specs.Words.{numbers, first_failing, some, map_option, IsFirst}

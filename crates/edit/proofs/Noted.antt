@@ -1,13 +1,12 @@
 -- The search for a cell among the entries, and what a write leaves.
-use Rattle.std.proofs.Common.{◌≡◌, ℕ, suc, ◌+◌, ◌^◌, ◌<◌, ◌≤◌, true, false, cond, eqb, ltb, ◌≢◌, List, [], ◌∷◌, ◌++◌, length, get_or, take, drop, set, Ok, Err, sym, refl, ap, ◌∙◌, ⊎_elim, arith, length-take}
-use lib.Seq.{take-set-lt}
-use Rattle.std.proofs.lemmas.List.{drop_more, drop_all, get_or-take, get_or-set_same, get_or-set_other, take_more_set}
-use Rattle.std.proofs.lemmas.Bool.{eq-eqb, ne_eqb, lt-ltb, le-ltb, ltb-true, cases_eq, cond_both}
+use Rattle.std.proofs.Common.{◌≡◌, ℕ, suc, ◌+◌, ◌<◌, ◌≤◌, true, false, eqb, List, [], ◌∷◌, ◌++◌, length, get_or, take, drop, set, Ok, Err, ap, ◌∙◌, ⊎_elim, arith, length-take}
+use Rattle.std.proofs.lemmas.List.{drop_more, drop_all, get_or-set_same, get_or-set_other}
+use Rattle.std.proofs.lemmas.Bool.{eq-eqb, ne_eqb, lt-ltb, le-ltb, cases_eq, cond_both}
 use Rattle.store.specs.declared.entry.Entry.{Entry}
 use Rattle.layout.specs.Layout.{in_range}
 use Rattle.layout.proofs.Fields.{range_fits as value-fits}
-use Rattle.refusal.specs.declared.refusal.Refusal.TheVariants.{BadValue, EditFull}
-use Rattle.edit.specs.Drafts.{Draft, note_answer, note_draft, entry, place_in, noted, has_room, Fitting, Fits}
+use Rattle.refusal.specs.declared.refusal.Refusal.TheVariants.{EditFull}
+use Rattle.edit.specs.Drafts.{Draft, note_answer, note_draft, entry, place_in, Fitting, Fits}
 
 module _ (es : List Entry) (c : ℕ) where
   pub place_here : (i : ℕ) (d : Entry) → i < length es → (get_or es i d).cell ≡ c → place_in (drop i es) c ≡ 0

@@ -1,5 +1,5 @@
 -- What an edit means: the values recorded for cells, and its mark. Assumes nothing.
-use Rattle.std.specs.Prelude.{◌≡◌, ℕ, suc, ◌^◌, ◌<◌, Bool, true, false, cond, List, [], ◌∷◌, ◌++◌, length, take, set, Ok, Err, fold, Result, ◌==◌, nat_lt, slice_index_or, slice_set}
+use Rattle.std.specs.Prelude.{ℕ, suc, ◌^◌, ◌<◌, Bool, true, false, cond, List, [], ◌∷◌, ◌++◌, length, take, set, Ok, Err, fold, Result, ◌==◌, nat_lt, slice_index_or, slice_set}
 use Rattle.layout.specs.Layout.{in_range, width}
 use Rattle.refusal.specs.declared.refusal.Refusal.{Refusal}
 use Rattle.refusal.specs.declared.refusal.Refusal.TheVariants.{BadValue, EditFull}

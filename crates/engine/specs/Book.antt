@@ -1,5 +1,5 @@
 -- The book: cells, and an edit or none; what a command answers by it, and what it makes of it. Assumes nothing.
-use Rattle.std.specs.Prelude.{ℕ, Bool, true, false, cond, List, [], length, Some, None, Ok, Err, Option, Result, nat_lt}
+use Rattle.std.specs.Prelude.{ℕ, true, false, cond, List, [], length, Some, None, Ok, Err, Option, Result, nat_lt}
 use Rattle.orders.specs.declared.command.Command.{Command}
 use Rattle.orders.specs.declared.command.Command.TheVariants.{Open, Put, Check, Commit, Discard}
 use Rattle.checks.specs.declared.fault.Fault.{Fault}

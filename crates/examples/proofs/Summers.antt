@@ -1,10 +1,10 @@
 -- Europe's summer of 2024, and the winters beside it.
-use Rattle.std.proofs.Common.{◌≡◌, ℕ, ◌+◌, ◌<◌, ◌≤◌, Bool, true, false, not, ℤ, pos, ◌≤ℤ◌, ◌<ℤ◌, Some, sym, refl, ◌∙◌, arith}
+use Rattle.std.proofs.Common.{◌≡◌, ℕ, ◌+◌, ◌<◌, ◌≤◌, true, false, ℤ, pos, Some, sym, refl, ◌∙◌, arith}
 use borrow.Author.Differences.{ints}
 use Rattle.calendar.specs.Months.{first_of, length_at}
 use Rattle.keeper.specs.Least.{least_later, changes}
 use Rattle.summer.specs.Sundays.{first_day}
-use Rattle.summer.specs.Years.{Ascending, Current}
+use Rattle.summer.specs.Years.{Current}
 use Rattle.summer.specs.Laws.{europe, europe_from, europe_until}
 use Rattle.summer.specs.Months.{europe_years}
 use Rattle.summer.proofs.Nexts.{next_at}

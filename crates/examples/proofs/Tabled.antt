@@ -1,25 +1,22 @@
 -- The table as a timetable, computed once, and a look by its parts.
-use Rattle.std.proofs.Common.{◌≡◌, ℕ, ◌+◌, ◌-◌, ◌<◌, ◌≤◌, Bool, true, false, cond, ◌&&◌, ltb, List, [], ◌∷◌, ℤ, pos, ◌-ℤ◌, is_some, Some, None, Option, sym, refl, ap, ◌∙◌, ap₂, arith}
+use Rattle.std.proofs.Common.{◌≡◌, ℕ, Bool, true, ◌&&◌, ltb, List, [], ◌∷◌, ℤ, pos, ◌-ℤ◌, is_some, Some, None, Option, sym, refl, ap, ◌∙◌, arith}
 use Rattle.calendar.specs.Dates.{InDays, IsDate}
 use Rattle.localtime.specs.Local.{local_time_of, day_of, time_of}
 use Rattle.localtime.specs.Weekdays.{weekday_of}
 use Rattle.keeper.specs.Best.{first_best}
-use Rattle.keeper.specs.Least.{least_later, changes}
 use Rattle.tables.specs.Numbered.{numbered}
 use Rattle.tables.specs.Bits.{bits_in}
-use Rattle.tables.specs.Cells.{Timetable, cell_at, row_of, plans_at, timetable}
-use Rattle.schedule.specs.Days.{month_of, date_of}
+use Rattle.tables.specs.Cells.{Timetable, cell_at, plans_at, timetable}
 use Rattle.schedule.specs.RowInForce.{best_row, row_on, row_number, row_plan}
 use Rattle.schedule.specs.Plans.{plan_on, events_on}
 use Rattle.tables.specs.Cells.{events_of}
 use Rattle.schedule.specs.EventInForce.{latest_of, started_by, days_back_of, event_from, closing_from, opening_of, event_in_force}
 use Rattle.schedule.specs.Boundaries.{local_at, day_at, time_at, before_next, last_of}
 use Rattle.schedule.specs.Candidates.{candidates, next_change}
-use Rattle.schedule.specs.Looks.{Rule, setting_of, showing, look_of, look_at}
+use Rattle.schedule.specs.Looks.{Rule, setting_of, showing, look_of}
 use Rattle.tables.specs.declared.row.Row.{Row}
 use Rattle.tables.specs.declared.event.Event.{Event}
 use Rattle.schedule.specs.declared.shown.EventInForce.{EventInForce}
-use Rattle.schedule.specs.declared.answer.Look.{Look}
 use Rattle.schedule.proofs.Dated.{month_is, date_is}
 use Rattle.schedule.proofs.Nearest.{nearest}
 use Rattle.schedule.proofs.Wholes.{started, opened}

@@ -1,5 +1,5 @@
 -- The worked examples, computed.
-use Rattle.std.proofs.Common.{◌≡◌, ℕ, ◌+◌, ◌<◌, ◌≤◌, Bool, true, false, ltb, List, [], ◌∷◌, map, length, ℤ, pos, negsuc, ◌+ℤ◌, Some, None, Option, sym, refl, ap, ◌∙◌, ap₂, arith}
+use Rattle.std.proofs.Common.{◌≡◌, ℕ, ◌+◌, ◌<◌, ◌≤◌, Bool, true, false, ltb, List, [], ◌∷◌, map, length, ℤ, pos, negsuc, Some, Option, sym, refl, ap, ◌∙◌, ap₂, arith}
 use borrow.Author.Differences.{ints}
 use Rattle.calendar.specs.Months.{first_of, length_at, length_of}
 use Rattle.calendar.specs.Dates.{InDays, IsDate, place_of}

@@ -1,5 +1,5 @@
 -- The worked examples as one list. Assumes nothing.
-use Rattle.std.specs.Prelude.{◌≡◌, ℕ, Bool, false, List, [], ◌∷◌, map, ℤ, pos, negsuc}
+use Rattle.std.specs.Prelude.{◌≡◌, ℕ, List, [], ◌∷◌, map, pos, negsuc}
 use Rattle.calendar.specs.Dates.{IsDate}
 use Rattle.localtime.specs.Local.{day_of}
 use Rattle.localtime.specs.Weekdays.{weekday_of}

@@ -2,16 +2,14 @@
 use Rattle.std.proofs.Common.{◌≡◌, ℕ, ◌+◌, ◌<◌, ◌≤◌, List, [], ◌∷◌, ◌++◌, map, length, get_or, take, drop, set, sym, ap, ◌∙◌, subst, append_assoc, append-nil, arith, length-take-le, get_or-take}
 use lib.ListN.{length-map}
 use Rattle.std.proofs.lemmas.List.{drop_more, drop_all, get_or-map, take_more_set}
-use Rattle.clock.specs.Time.{Meaning as Moment}
 use Rattle.history.specs.declared.calls.Call.{Call}
 use Rattle.history.specs.declared.calls.Call.TheVariants.{Look, Set, Pass, Get, Open, Put, Check, Commit, Discard, Clear, Run}
 use Rattle.history.specs.declared.calls.Answer.{Answer}
-use Rattle.history.specs.Book.{Kind, answers, kept, moved, moves, tick}
+use Rattle.history.specs.Book.{Kind, answers, kept}
 use Rattle.history.specs.History.{Meaning, Turned}
-use Rattle.history.proofs.Turns.{moved_cons}
 use Rattle.exports.specs.declared.fields.Step.{Step}
 use Rattle.exports.specs.declared.fields.Told.{Told}
-use Rattle.exports.specs.Lives.{Acted, Same, call_of, calls_of, lying, told_of}
+use Rattle.exports.specs.Lives.{Acted, Same, call_of, calls_of, told_of}
 
 -- after some turns the engine means `at`, has told `out`, and `left` is still to do
 pub record Sofar (k : Kind) (start : Meaning) (calls : List Call) (at : Meaning) (out : List Told) (left : List Call) : Type 0 where

@@ -1,5 +1,5 @@
 -- How answers cross to another language. Assumes nothing.
-use Rattle.std.specs.Prelude.{ℕ, Bool, false, cond, List, ℤ, pos, negsuc, Some, None, Ok, Err, Option, Result, ◌==◌}
+use Rattle.std.specs.Prelude.{ℕ, false, cond, List, ℤ, pos, negsuc, Some, None, Ok, Err, Option, Result, ◌==◌}
 use Rattle.engine.specs.Book.{State}
 use Rattle.runner.specs.declared.stopped.Stopped.{Stopped}
 use Rattle.refusal.specs.declared.refusal.Refusal.{Refusal}

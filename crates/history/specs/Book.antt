@@ -1,5 +1,5 @@
 -- The book of a history: what each call answers, and what it makes of the book and of the time. Assumes nothing.
-use Rattle.std.specs.Prelude.{ℕ, List, [], ◌∷◌, Ok, Err, Option, Result}
+use Rattle.std.specs.Prelude.{ℕ, List, [], ◌∷◌, Ok, Err, Result}
 use Rattle.refusal.specs.declared.refusal.Refusal.{Refusal}
 use Rattle.clock.specs.Time.{Meaning as Moment, passed}
 use Rattle.clock.specs.Setting.{set_answer, adjusted}

@@ -1,8 +1,8 @@
 -- The image at the layout's widths: each cell at the layout's place.
-use Rattle.std.proofs.Common.{◌≡◌, ℕ, zero, suc, ◌+◌, ◌-◌, ◌/◌, ◌%◌, ◌^◌, ◌<◌, ◌≤◌, false, ltb, leb, List, [], ◌∷◌, ◌++◌, length, get_or, take, drop, set, sym, refl, ap, ◌∙◌, subst, inl, inr, ⊎_elim, add-zero, zero-add, add-one, arith}
+use Rattle.std.proofs.Common.{◌≡◌, ℕ, zero, suc, ◌+◌, ◌-◌, ◌/◌, ◌%◌, ◌^◌, ◌<◌, ◌≤◌, false, ltb, leb, List, [], ◌∷◌, ◌++◌, length, get_or, take, drop, set, sym, refl, ap, ◌∙◌, subst, inl, inr, ⊎_elim, add-zero, zero-add, arith}
 use Rattle.layout.proofs.Fields.{width_least}
 use Rattle.layout.specs.Layout.{cell_count, place_of, width}
-use Rattle.std.proofs.lemmas.List.{append_assoc, append-nil, drop_all, drop-drop, drop-set, length-drop, length-set, length-take-le, take-append-drop, take_more, take-set-le}
+use Rattle.std.proofs.lemmas.List.{append_assoc, append-nil, drop-drop, drop-set, length-drop, length-take-le, take-append-drop, take_more, take-set-le}
 use Rattle.std.proofs.lemmas.Bool.{cases_lt, le-leb, le-ltb, lt-leb, lt-ltb}
 use Rattle.std.specs.Int.Digits.{number_from_digits}
 use Rattle.image.proofs.Digits.{length-bytes_of, number-bytes_of}

@@ -1,11 +1,11 @@
 -- What the first best of a list means, that there is only one, and one more in the list.
-use Rattle.std.proofs.Common.{◌≡◌, ℕ, zero, suc, ◌+◌, ◌<◌, ◌≤◌, Bool, true, false, cond, ◌||◌, ◌⊎◌, List, [], ◌∷◌, ◌++◌, map, length, get_or, Some, None, Option, sym, refl, ap, ◌∙◌, subst, inl, inr, arith, length-append}
+use Rattle.std.proofs.Common.{◌≡◌, ℕ, zero, suc, ◌+◌, ◌<◌, Bool, true, false, cond, ◌⊎◌, List, [], ◌∷◌, ◌++◌, map, length, get_or, Some, None, Option, sym, refl, ap, ◌∙◌, subst, inl, inr, arith, length-append}
 use lib.Seq.{get_or-append_seam}
 use Rattle.std.specs.Cmp.{IsStrictWeakOrder}
 use Rattle.std.specs.List.{IsFirstBest as FirstBest, best_of}
 use Rattle.std.proofs.lemmas.List.MinMax.{IsFirstBest-from_best_of}
 use Rattle.std.proofs.lemmas.List.{get_or_default, get_or_append_left}
-use Rattle.std.proofs.lemmas.Bool.{both_ways, or_from, or_left, or_right, cases_order, cases_lt}
+use Rattle.std.proofs.lemmas.Bool.{both_ways, or_from, or_left, or_right, cases_lt}
 use Rattle.keeper.specs.Best.{beaten, first_unbeaten, first_best, Best, IsFirstBest, keep_one, map_option}
 
 module _ {X : Type 0} (beats : X → X → Bool) where

@@ -1,7 +1,7 @@
 -- What the least later number means, that there is only one, and when two are the same.
-use Rattle.std.proofs.Common.{◌≡◌, ℕ, zero, suc, ◌+◌, ◌-◌, ◌<◌, ◌≤◌, Bool, true, false, ◌⊎◌, Some, None, Option, sym, refl, ap, ◌∙◌, subst, inl, inr, ⊎_elim, arith}
+use Rattle.std.proofs.Common.{◌≡◌, ℕ, zero, suc, ◌+◌, ◌-◌, ◌<◌, ◌≤◌, Bool, true, false, Some, None, Option, sym, refl, ap, ◌∙◌, subst, inl, inr, arith}
 use Rattle.std.proofs.lemmas.Bool.{both_ways, cases_order}
-use Rattle.keeper.specs.Least.{least_from, least_later, Least, IsLeast}
+use Rattle.keeper.specs.Least.{least_from, least_later, IsLeast}
 
 module _ (p : ℕ → Bool) where
   -- the numbers from m on, n of them

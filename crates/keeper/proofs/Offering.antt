@@ -2,7 +2,6 @@
 use Rattle.std.proofs.Common.{◌≡◌, ℕ, ◌+◌, ◌<◌, ◌≤◌, Bool, true, false, cond, List, [], ◌∷◌, ◌++◌, map, length, get_or, take, Some, None, filter, Option, sym, refl, ap, ◌∙◌}
 use Rattle.std.proofs.lemmas.List.{map-append, append-nil, take_all}
 use Rattle.std.proofs.lemmas.List.Elements.{filter_more}
-use Rattle.keeper.specs.declared.offer.Offer.{Offer}
 use Rattle.keeper.specs.Best.{first_best, map_option}
 use Rattle.keeper.specs.Offers.{ranked, place_of, own}
 use Rattle.keeper.proofs.Bests.{best_map}

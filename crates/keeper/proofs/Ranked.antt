@@ -1,5 +1,5 @@
 -- A total order of ranks ranks the offers, and the keeper's step.
-use Rattle.std.proofs.Common.{◌≡◌, ℕ, Bool, true, false, cond, List, [], ◌∷◌, ◌++◌, Some, None, Option, sym, refl, ap, ◌∙◌}
+use Rattle.std.proofs.Common.{◌≡◌, Bool, true, false, List, [], ◌∷◌, ◌++◌, Option, sym, refl, ap, ◌∙◌}
 use Rattle.std.specs.Cmp.{IsStrictWeakOrder}
 use Rattle.keeper.specs.declared.offer.Offer.{Offer}
 use Rattle.keeper.specs.Best.{first_best, IsFirstBest, keep_one}

@@ -1,6 +1,6 @@
 -- What the layout says of each cell: how wide it is, that its values fit, and where rows and events stand.
-use Rattle.std.proofs.Common.{◌≡◌, ℕ, ◌+◌, ◌-◌, ◌*◌, ◌%◌, ◌^◌, ◌<◌, ◌≤◌, true, refl, arith}
-use Rattle.layout.specs.Layout.{allows, EventFields, event_cell, field_of, in_range, only, Positions, RowFields, row_cell, row_count, width, width_of}
+use Rattle.std.proofs.Common.{◌≡◌, ℕ, ◌^◌, ◌<◌, ◌≤◌, true, refl, arith}
+use Rattle.layout.specs.Layout.{allows, EventFields, field_of, in_range, only, Positions, RowFields, row_count, width, width_of}
 use Rattle.layout.specs.declared.field.Field.TheVariants.{Zone, Summer, Months, Weekdays, Dates, Plan, Hour, Minute, Tariff}
 use Rattle.layout.specs.declared.field.Field.{Field}
 use Rattle.std.proofs.lemmas.Nat.{and_le_r}

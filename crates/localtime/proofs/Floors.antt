@@ -1,5 +1,5 @@
 -- Where a local time falls.
-use Rattle.std.proofs.Common.{◌≡◌, ℕ, ◌<◌, ℤ, pos, negsuc, ◌+ℤ◌, ◌*ℤ◌, arith}
+use Rattle.std.proofs.Common.{◌≡◌, ℕ, ℤ, pos, negsuc, arith}
 use borrow.Author.Differences.{ints}
 use Rattle.localtime.specs.Local.{day_of, time_of, Falls}
 

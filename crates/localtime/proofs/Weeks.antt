@@ -1,8 +1,7 @@
 -- Weekdays follow one another.
-use Rattle.std.proofs.Common.{◌≡◌, ℕ, zero, suc, ◌+◌, ◌%◌, ◌<◌, ◌≤◌, eqb, ℤ, pos, negsuc, ◌+ℤ◌, nat_abs, refl, arith}
+use Rattle.std.proofs.Common.{refl, arith}
 use borrow.Author.Differences.{ints}
 use Rattle.std.proofs.lemmas.Bool.Decides.{nat_tests}
-use Rattle.std.specs.Int.{int_rem_euclid}
 use Rattle.localtime.specs.Weekdays.{weekday_of, WeekdaysTurn}
 
 pub turns : WeekdaysTurn

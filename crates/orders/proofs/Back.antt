@@ -1,10 +1,10 @@
 -- What is written is read as it was written.
-use Rattle.std.proofs.Common.{◌≡◌, ℕ, zero, suc, ◌+◌, ◌-◌, ◌*◌, ◌/◌, ◌%◌, ◌<◌, ◌≤◌, Bool, true, false, cond, not, ◌&&◌, eqb, leb, List, [], ◌∷◌, ◌++◌, length, get_or, drop, Some, None, Ok, Err, Option, sym, refl, ap, ◌∙◌, subst, append_assoc, arith, length-append, get_or-drop}
+use Rattle.std.proofs.Common.{◌≡◌, ℕ, ◌+◌, ◌*◌, ◌/◌, ◌%◌, ◌<◌, ◌≤◌, true, false, eqb, leb, List, [], ◌∷◌, ◌++◌, length, drop, Some, None, Ok, Err, Option, sym, refl, ap, ◌∙◌, subst, append_assoc, arith, length-append, get_or-drop}
 use Rattle.std.proofs.lemmas.Bool.{ne_eqb, le-leb, and_parts}
 use Rattle.orders.specs.declared.command.Command.{Command}
 use Rattle.orders.specs.declared.command.Command.TheVariants.{Open, Put, Check, Commit, Discard}
-use Rattle.orders.specs.Form.{Form, Placed, by_first, put_at, command_at, size_of, stands, closes, with_first, one, reads_on, form}
-use Rattle.orders.specs.Written.{bytes_of, written, placed, between, all_between, begins, Fit, AllFit, Bytes, Faulty, WrittenReads, FaultOnly}
+use Rattle.orders.specs.Form.{command_at, size_of, stands, closes, with_first, reads_on}
+use Rattle.orders.specs.Written.{bytes_of, written, placed, between, all_between, begins, Fit, AllFit, Bytes, WrittenReads, FaultOnly}
 use Rattle.orders.proofs.Reading.{closing, passed, reads_end, misplaced}
 
 some_left : (b : ℕ) (xs : List ℕ) → eqb (length (b ∷ xs)) 0 ≡ false

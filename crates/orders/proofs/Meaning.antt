@@ -1,10 +1,10 @@
 -- What the form of an order means.
-use Rattle.std.proofs.Common.{◌≡◌, ℕ, zero, suc, ◌+◌, ◌-◌, ◌*◌, ◌/◌, ◌%◌, ◌<◌, ◌≤◌, Bool, true, false, cond, not, ◌&&◌, eqb, leb, List, [], ◌∷◌, ◌++◌, length, get_or, drop, Some, None, Ok, Err, Option, sym, refl, ap, ◌∙◌, subst, ⊎_elim, append_assoc, append-nil, arith, length-append, length-drop, get_or-drop}
+use Rattle.std.proofs.Common.{◌≡◌, ℕ, zero, suc, ◌+◌, ◌*◌, ◌/◌, ◌%◌, ◌<◌, ◌≤◌, true, false, not, eqb, leb, List, [], ◌∷◌, ◌++◌, length, get_or, drop, Some, None, Ok, Err, Option, sym, refl, ap, ◌∙◌, subst, ⊎_elim, append_assoc, arith, length-append, get_or-drop}
 use Rattle.std.proofs.lemmas.Bool.{cases_Bool, cond_both, leb-true, eqb-true, eqb-false, and_parts}
 use Rattle.orders.specs.declared.command.Command.{Command}
 use Rattle.orders.specs.declared.command.Command.TheVariants.{Open, Put, Check, Commit, Discard}
-use Rattle.orders.specs.Form.{Form, Placed, by_first, put_at, command_at, size_of, stands, closes, with_first, one, reads_on, form}
-use Rattle.orders.specs.Written.{bytes_of, written, placed, between, all_between, begins, Accepted, Faulty, Means, Bytes, FormMeans}
+use Rattle.orders.specs.Form.{Form, Placed, by_first, put_at, command_at, size_of, stands, closes, with_first, reads_on}
+use Rattle.orders.specs.Written.{bytes_of, written, placed, between, all_between, Faulty, Means, Bytes, FormMeans}
 use Rattle.orders.proofs.Reading.{reads_end, shorter, misplaced, closing, passed}
 
 -- the bytes that a command is read from are its own

@@ -1,5 +1,5 @@
 -- Where there is a place for each answer, the whole life is lived.
-use Rattle.std.proofs.Common.{◌≡◌, ℕ, ◌≤◌, min, List, ◌++◌, length, take, drop, Option, Result, sym, ap, ◌∙◌, arith, take_at}
+use Rattle.std.proofs.Common.{◌≡◌, ℕ, min, List, ◌++◌, length, take, drop, Option, Result, sym, ap, ◌∙◌, arith, take_at}
 use Rattle.std.proofs.lemmas.List.{take_all}
 use Rattle.refusal.specs.declared.refusal.Refusal.{Refusal}
 use Rattle.schedule.specs.declared.answer.Look.{Look}

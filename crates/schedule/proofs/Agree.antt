@@ -1,11 +1,11 @@
 -- Rules that mean the same give the same looks.
-use Rattle.std.proofs.Common.{◌≡◌, ℕ, ◌-◌, ◌≤◌, Bool, true, false, cond, ◌&&◌, ◌||◌, leb, ℤ, pos, negsuc, ◌-ℤ◌, ◌≤ℤ◌, sym, refl, ap, ◌∙◌, ap₂, arith}
+use Rattle.std.proofs.Common.{◌≡◌, ℕ, ◌-◌, ◌≤◌, Bool, true, false, cond, leb, pos, negsuc, ◌-ℤ◌, ◌≤ℤ◌, refl, ap, arith}
 use borrow.Author.Differences.{ints}
 use Rattle.std.proofs.lemmas.Bool.{leb-true}
 use Rattle.keeper.proofs.Leasts.{later_like}
 use Rattle.tables.specs.Cells.{Timetable, offset_of, timetable}
 use Rattle.schedule.specs.Boundaries.{Setting, local_at, day_at, time_at, boundary, before_next, last_of}
-use Rattle.schedule.specs.Looks.{Rule, SameRule, setting_of, look_of}
+use Rattle.schedule.specs.Looks.{Rule, setting_of, look_of}
 use Rattle.schedule.specs.Laws.{Agreeing}
 
 module _ (z : Timetable) (f g : Rule) (same : (k : ℕ) → k ≤ 4294967295 → f z.offset k ≡ g z.offset k) where

@@ -1,5 +1,5 @@
 -- Two looks, and all that holds of looks.
-use Rattle.std.proofs.Common.{◌≡◌, ℕ, ◌-◌, ◌<◌, ◌≤◌, List, sym, refl, ap, ◌∙◌, subst, arith}
+use Rattle.std.proofs.Common.{◌≡◌, ℕ, ◌-◌, ◌<◌, ◌≤◌, List, sym, ap, ◌∙◌, subst, arith}
 use Rattle.tables.specs.Cells.{Timetable, cell_at, timetable}
 use Rattle.schedule.specs.Looks.{Rule, SameRule, look_at, look_of, onward}
 use Rattle.schedule.specs.Laws.{Laws}

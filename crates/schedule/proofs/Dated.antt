@@ -1,12 +1,12 @@
 -- The month and the date of a day are those of its only date.
-use Rattle.std.proofs.Common.{◌≡◌, ℕ, ◌+◌, ◌-◌, ◌*◌, ◌<◌, ◌≤◌, Bool, true, false, ◌⊎◌, ℤ, pos, negsuc, ◌+ℤ◌, ◌-ℤ◌, nat_abs, ◌≤ℤ◌, ◌<ℤ◌, Some, None, Option, sym, refl, ap, ◌∙◌, subst, inl, inr, arith}
+use Rattle.std.proofs.Common.{◌≡◌, ℕ, ◌+◌, ◌-◌, ◌<◌, ◌≤◌, true, false, ℤ, pos, ◌+ℤ◌, ◌-ℤ◌, nat_abs, ◌≤ℤ◌, ◌<ℤ◌, Some, None, Option, sym, ap, ◌∙◌, subst, inl, inr, arith}
 use borrow.Author.Differences.{ints}
 use lib.Signed.{lt_z}
-use Rattle.calendar.specs.Months.{first_of, month_at, year_at}
+use Rattle.calendar.specs.Months.{first_of, year_at}
 use Rattle.std.proofs.lemmas.Bool.{cases_lt}
 use Rattle.calendar.specs.Dates.{InDays, IsDate, place_of}
 use Rattle.calendar.proofs.MonthPlaces.{begins, climbs, ends, found, from_first, to_next}
-use Rattle.keeper.specs.Least.{least_later, Least, IsLeast}
+use Rattle.keeper.specs.Least.{Least, IsLeast}
 use Rattle.keeper.proofs.Leasts.{least_is, least_only}
 use Rattle.schedule.specs.Days.{next_month, month_before, date_before, month_of, date_of, DaysHaveDates}
 

@@ -1,16 +1,14 @@
 -- The row in force and the latest event are the first best under a total order.
-use Rattle.std.proofs.Common.{◌≡◌, ℕ, true, false, ltb, ℤ, filter, arith}
+use Rattle.std.proofs.Common.{◌≡◌, ℕ, true, false, ltb, filter, arith}
 use Rattle.std.specs.Cmp.{IsStrictWeakOrder}
 use Rattle.std.proofs.lemmas.List.MinMax.{IsStrictWeakOrder-flip, IsStrictWeakOrder-by_number}
 use Rattle.std.proofs.lemmas.Bool.Decides.{nat_tests}
 use Rattle.keeper.specs.Fewer.{fewer}
-use Rattle.keeper.specs.Best.{IsFirstBest}
 use Rattle.keeper.proofs.Bests.{best_is}
 use Rattle.schedule.specs.RowInForce.{narrower, best_row}
 use Rattle.schedule.specs.EventInForce.{latest_of, starts_later}
 use Rattle.schedule.specs.Laws.{RowsMean, EventsMean}
 use Rattle.tables.specs.declared.event.Event.{Event}
-use Rattle.tables.specs.declared.row.Row.{Row}
 
 fewer_one_way : (a b c x y z : ℕ) → fewer a b c x y z ≡ true → fewer x y z a b c ≡ false
 fewer_one_way a b c x y z h = grind (arith, nat_tests)

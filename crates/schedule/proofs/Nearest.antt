@@ -1,10 +1,10 @@
 -- The least of the candidates is the least later boundary.
-use Rattle.std.proofs.Common.{◌≡◌, ℕ, zero, suc, ◌+◌, ◌-◌, ◌*◌, ◌<◌, ◌≤◌, Bool, true, false, cond, ◌&&◌, ◌||◌, eqb, ltb, leb, ◌⊎◌, List, [], ◌∷◌, ◌++◌, length, get_or, Some, None, Option, sym, refl, ap, ◌∙◌, subst, ap₂, inl, inr, arith}
+use Rattle.std.proofs.Common.{◌≡◌, ℕ, zero, suc, ◌+◌, ◌-◌, ◌*◌, ◌<◌, ◌≤◌, Bool, true, false, cond, ◌&&◌, eqb, ltb, leb, ◌⊎◌, List, [], ◌∷◌, ◌++◌, length, get_or, Some, None, Option, sym, refl, ap, ◌∙◌, subst, ap₂, inl, inr, arith}
 use Rattle.std.proofs.lemmas.Bool.{or_from, or_left, or_right, cases_Bool, eq-eqb, ne_eqb, cases_lt, ltb-true, ltb-false, leb-true, leb-false}
 use Rattle.std.specs.List.{flat_map}
 use Rattle.std.proofs.lemmas.List.MinMax.{IsStrictWeakOrder-by_number}
-use Rattle.keeper.specs.Least.{least_later, changes, Least, IsLeast}
-use Rattle.keeper.specs.Best.{first_best, Best, IsFirstBest}
+use Rattle.keeper.specs.Least.{least_later, changes, IsLeast}
+use Rattle.keeper.specs.Best.{first_best, IsFirstBest}
 use Rattle.keeper.proofs.Leasts.{least_is, least_only}
 use Rattle.keeper.proofs.Bests.{best_is}
 use Rattle.tables.specs.Numbered.{alone}

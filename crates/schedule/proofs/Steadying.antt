@@ -1,17 +1,15 @@
 -- Up to its last second a look repeats itself.
-use Rattle.std.proofs.Common.{◌≡◌, ℕ, ◌+◌, ◌-◌, ◌*◌, ◌<◌, ◌≤◌, Bool, true, false, cond, ◌||◌, eqb, leb, ◌⊎◌, List, [], ◌∷◌, ℤ, pos, ◌+ℤ◌, Some, None, filter, Option, sym, refl, ap, ◌∙◌, ap₂, inl, inr, arith}
+use Rattle.std.proofs.Common.{◌≡◌, ℕ, ◌+◌, ◌-◌, ◌*◌, ◌<◌, ◌≤◌, Bool, false, cond, eqb, leb, List, [], ◌∷◌, ℤ, pos, ◌+ℤ◌, Some, None, filter, Option, sym, refl, ap, ◌∙◌, ap₂, inl, inr, arith}
 use Rattle.std.proofs.lemmas.Bool.{or_parts, eqb-false, cases_lt, le-leb, lt-leb}
 use Rattle.keeper.specs.Least.{least_later, IsLeast}
 use Rattle.keeper.proofs.Leasts.{least_is, later_same}
 use Rattle.schedule.specs.EventInForce.{has_started, started_by, latest_of, latest_or, event_in_force}
-use Rattle.schedule.specs.Plans.{plan_on, events_on}
-use Rattle.schedule.specs.RowInForce.{row_on, row_number}
+use Rattle.schedule.specs.Plans.{events_on}
 use Rattle.schedule.specs.Boundaries.{Setting, local_at, day_at, time_at, events_at, starts_now, boundary, before_next, last_of}
-use Rattle.schedule.specs.Looks.{Rule, setting_of, look_of, onward}
+use Rattle.schedule.specs.Looks.{setting_of, look_of}
 use Rattle.schedule.specs.Laws.{Steady, LastWithin}
 use Rattle.tables.specs.Cells.{Timetable}
 use Rattle.tables.specs.declared.event.Event.{Event}
-use Rattle.schedule.specs.declared.shown.EventInForce.{EventInForce}
 use Rattle.schedule.proofs.Running.{Free, calm, placed, inside, runs, no_start, events_at_lem}
 
 -- an event that does not start after s, up to r, has started at r where it has at s

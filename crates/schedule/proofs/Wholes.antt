@@ -1,5 +1,5 @@
 -- The parts of a look put together.
-use Rattle.std.proofs.Common.{◌≡◌, ℕ, List, ℤ, Some, None, Option, sym, refl, ap, ◌∙◌}
+use Rattle.std.proofs.Common.{◌≡◌, ℕ, List, ℤ, Some, None, Option, ap, ◌∙◌}
 use Rattle.tables.specs.Cells.{Timetable}
 use Rattle.schedule.specs.RowInForce.{row_on, row_number, row_plan}
 use Rattle.schedule.specs.Plans.{plan_on, events_on}

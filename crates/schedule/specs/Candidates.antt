@@ -1,5 +1,5 @@
 -- The few seconds of which one is the next boundary: helpers, shown to have the least later boundary as their least.
-use Rattle.std.specs.Prelude.{◌≡◌, ℕ, ◌+◌, ◌-◌, ◌*◌, Bool, cond, List, [], ◌∷◌, ◌++◌, Some, None, Option, nat_le, nat_lt}
+use Rattle.std.specs.Prelude.{◌≡◌, ℕ, ◌+◌, ◌-◌, ◌*◌, cond, List, [], ◌∷◌, ◌++◌, None, Option, nat_le, nat_lt}
 use Rattle.std.specs.List.{flat_map}
 use Rattle.keeper.specs.Least.{least_later, changes}
 use Rattle.tables.specs.Numbered.{alone}

@@ -1,6 +1,6 @@
 -- The month and the date of a day, by the calendar's month firsts. Assumes nothing.
-use Rattle.std.specs.Prelude.{ℕ, ◌-◌, Bool, ℤ, pos, ◌+ℤ◌, ◌-ℤ◌, Some, None, Option, int_lt, unsigned_abs}
-use Rattle.calendar.specs.Months.{first_of, month_at, year_at}
+use Rattle.std.specs.Prelude.{ℕ, ◌-◌, ℤ, pos, ◌+ℤ◌, ◌-ℤ◌, Some, None, Option, int_lt, unsigned_abs}
+use Rattle.calendar.specs.Months.{first_of, month_at}
 use Rattle.calendar.specs.Dates.{InDays, IsDate}
 use Rattle.keeper.specs.Least.{least_later}
 

@@ -1,5 +1,5 @@
 -- The whole look, for any timetable, any rule and any second. Assumes nothing.
-use Rattle.std.specs.Prelude.{◌≡◌, ℕ, ◌-◌, ◌≤◌, Bool, List, ℤ, pos, negsuc, ◌+ℤ◌, ◌≤ℤ◌}
+use Rattle.std.specs.Prelude.{◌≡◌, ℕ, ◌≤◌, Bool, List, ℤ, pos, negsuc, ◌+ℤ◌, ◌≤ℤ◌}
 use Rattle.tables.specs.Cells.{Timetable, cell_at, timetable}
 use Rattle.schedule.specs.RowInForce.{row_on, row_number}
 use Rattle.schedule.specs.Plans.{plan_on, events_on}

@@ -1,5 +1,5 @@
 -- An answer that stays up to n and is another at n next changes at n.
-use Rattle.std.proofs.Common.{◌≡◌, ℕ, zero, suc, ◌+◌, ◌-◌, ◌<◌, ◌≤◌, Bool, true, false, not, Some, None, Option, sym, refl, ap, ◌∙◌, subst, arith}
+use Rattle.std.proofs.Common.{◌≡◌, ℕ, ◌-◌, ◌<◌, ◌≤◌, Bool, true, false, not, Some, None, sym, refl, ap, ◌∙◌, arith}
 use Rattle.keeper.specs.Least.{least_later, differs, changes}
 use Rattle.keeper.proofs.Leasts.{least_only}
 

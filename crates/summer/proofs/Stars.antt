@@ -1,7 +1,7 @@
-use Rattle.std.proofs.Common.{◌≡◌, ℕ, ◌+◌, ◌-◌, ◌<◌, ◌≤◌, ℤ, pos, negsuc, ◌+ℤ◌, ◌≤ℤ◌, ◌<ℤ◌, refl, ap, arith}
+use Rattle.std.proofs.Common.{◌≡◌, ℕ, ◌+◌, ◌-◌, ◌<◌, ℤ, pos, negsuc, ◌+ℤ◌, ◌≤ℤ◌, ◌<ℤ◌, refl, arith}
 use borrow.Author.Differences.{ints}
 use Rattle.calendar.specs.Months.{first_of, length_at}
-use Rattle.summer.specs.Sundays.{first_day, first_sunday, last_sunday}
+use Rattle.summer.specs.Sundays.{first_day}
 use Rattle.summer.specs.Years.{Ascending, Current}
 use Rattle.summer.specs.Laws.{america_from, america_until, europe_from, europe_until}
 use Rattle.summer.specs.Examples.{Examples}

@@ -1,10 +1,10 @@
 -- Cells that are the same give the same timetable.
-use Rattle.std.proofs.Common.{◌≡◌, ℕ, zero, suc, ◌+◌, ◌<◌, ◌≤◌, Bool, true, false, cond, eqb, List, [], ◌∷◌, ◌++◌, map, Option, refl, ap, ap₂, arith}
+use Rattle.std.proofs.Common.{◌≡◌, ℕ, zero, suc, ◌+◌, ◌<◌, ◌≤◌, Bool, true, false, cond, eqb, [], ◌∷◌, ◌++◌, map, Option, refl, ap, ap₂, arith}
 use Rattle.std.specs.List.{range_with_len}
 use Rattle.std.proofs.lemmas.Bool.{eqb-false}
 use Rattle.layout.specs.Layout.{row_cell, event_cell}
 use Rattle.tables.specs.Numbered.{alone, numbered}
-use Rattle.tables.specs.Cells.{Timetable, row_at, event_at, plan_at, plans_at, timetable, SameCells}
+use Rattle.tables.specs.Cells.{row_at, event_at, plan_at, plans_at, timetable, SameCells}
 
 -- the same numbered things
 numbered_same : {X : Type 0} (at other : ℕ → Option X) (n : ℕ) → ((k : ℕ) → 1 ≤ k → k ≤ n → at k ≡ other k) → numbered at n ≡ numbered other n

@@ -1,4 +1,4 @@
-use Rattle.std.proofs.Common.{take, sym, ap, ◌∙◌, subst}
+use Rattle.std.proofs.Common.{take, ap, ◌∙◌, subst}
 use Rattle.history.specs.Book.{kind_of}
 use Rattle.history.specs.History.{Meaning, Lived, meaning}
 use Rattle.archive.specs.Law.{defined}

@@ -1,4 +1,4 @@
-use Rattle.std.proofs.Common.{refl, ◌∙◌, arith}
+use Rattle.std.proofs.Common.{◌∙◌, arith}
 use Rattle.book.proofs.Turns.{moved_end, moved_turn}
 use Rattle.book.proofs.time.clock_after.Goals as goal
 

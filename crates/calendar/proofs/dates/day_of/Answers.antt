@@ -1,6 +1,6 @@
 use Rattle.std.proofs.Common.{ℕ, ◌+◌, ◌-◌, ◌*◌, refl, arith}
 use borrow.Author.Differences.{ints}
-use Rattle.calendar.proofs.MonthPlaces.{bounds, within, late, made, no_day}
+use Rattle.calendar.proofs.MonthPlaces.{bounds, late, made, no_day}
 use Rattle.calendar.proofs.dates.day_of.Goals as goal
 use Rattle.calendar.proofs.dates.day_of.Goals.{then-months-lt23640-via-then-months-lt23640, then-months-lt23640-via-else-months-lt23640+then-months-ge25275, then-day-lt1-via-then-day-lt1, then-day-lt1-via-else-day-lt1+then-day-end}
 

@@ -1,4 +1,4 @@
-use Rattle.std.proofs.Common.{◌<◌, arith}
+use Rattle.std.proofs.Common.{arith}
 use borrow.Author.Differences.{ints}
 use Rattle.calendar.proofs.MonthPlaces.{later_first, earlier_first}
 use Rattle.calendar.proofs.dates.place_of.Goals as goal

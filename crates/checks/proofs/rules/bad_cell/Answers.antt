@@ -1,4 +1,4 @@
-use Rattle.std.proofs.Common.{◌≡◌, true, false, sym, refl, ap, ◌∙◌, arith}
+use Rattle.std.proofs.Common.{sym, refl, ap, ◌∙◌, arith}
 use Rattle.checks.specs.Words.{reading, map_option}
 use Rattle.checks.specs.Rules.{good, named}
 use Rattle.checks.specs.Rules.Place.{cell_at}

@@ -1,5 +1,5 @@
 use Rattle.layout.specs.Layout.{event_count}
-use Rattle.std.proofs.Common.{◌≡◌, ℕ, ◌+◌, ◌-◌, ◌<◌, ◌≤◌, List, ◌++◌, map, Some, None, Option, sym, refl, ap, ◌∙◌, arith}
+use Rattle.std.proofs.Common.{◌≡◌, ℕ, ◌+◌, ◌-◌, ◌<◌, ◌≤◌, List, map, None, Option, sym, refl, ap, ◌∙◌, arith}
 use Rattle.checks.specs.declared.fault.Fault.{Fault}
 use Rattle.checks.specs.Words.{numbers, reading, map_option, first_failing}
 use Rattle.checks.specs.Rules.{Place, good, named, event_places}

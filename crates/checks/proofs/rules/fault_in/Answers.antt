@@ -1,5 +1,5 @@
 use Rattle.layout.specs.Layout.{plan_count}
-use Rattle.std.proofs.Common.{◌≡◌, ℕ, List, ◌++◌, map, Some, None, Option, sym, refl, ap, ◌∙◌}
+use Rattle.std.proofs.Common.{◌≡◌, ℕ, List, Some, None, Option, sym, ap, ◌∙◌}
 use Rattle.checks.specs.declared.fault.Fault.{Fault}
 use Rattle.checks.specs.Words.{numbers, reading, map_option, first_failing}
 use Rattle.checks.specs.Rules.{Place, good, named, cell_places, row_places, plan_places, event_places, first_fault}

@@ -1,5 +1,4 @@
-use Rattle.layout.specs.Layout.{plan_count}
-use Rattle.std.proofs.Common.{◌≡◌, true, false, sym, refl, ap, ◌∙◌, arith}
+use Rattle.std.proofs.Common.{sym, refl, ◌∙◌, arith}
 use Rattle.checks.specs.Words.{reading}
 use Rattle.checks.specs.Rules.{counts, plan_counts}
 use Rattle.checks.proofs.Firsts.{passes_here, passes_later, passes_never}

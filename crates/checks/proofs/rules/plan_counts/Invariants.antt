@@ -1,7 +1,7 @@
 use Rattle.layout.specs.Layout.{event_count}
-use Rattle.std.proofs.Common.{◌≡◌, ◌-◌, ◌&&◌, eqb}
+use Rattle.std.proofs.Common.{◌≡◌, ◌-◌}
 use Rattle.checks.specs.Words.{numbers, some, reading}
-use Rattle.checks.specs.Rules.{counts, start_of}
+use Rattle.checks.specs.Rules.{counts}
 use Rattle.checks.proofs.rules.plan_counts.Given as goal
 
 abbrev pub invariant-loop-e : goal.invariant-loop-e

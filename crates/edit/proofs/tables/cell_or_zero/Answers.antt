@@ -1,7 +1,3 @@
-use Rattle.std.proofs.Common.{◌≡◌, ℕ, ◌≤◌, length, sym, arith}
-use Rattle.std.proofs.lemmas.Bool.Decides.{nat_tests}
-use Rattle.std.proofs.lemmas.List.{get_or_past}
-use Rattle.store.specs.Cells.{get_answer}
 use Rattle.edit.proofs.Tabled.{past}
 use Rattle.edit.proofs.tables.cell_or_zero.Goals as goal
 

@@ -1,4 +1,4 @@
-use Rattle.std.proofs.Common.{arith, rules}
+use Rattle.std.proofs.Common.{arith}
 use Rattle.edit.proofs.Tabled.{same_reading}
 use Rattle.edit.proofs.tables.copied.Goals as goal
 

@@ -2,7 +2,7 @@ use Rattle.std.proofs.lemmas.Bool.{ltb-true}
 use Rattle.image.proofs.bytes.count_cells.Goals as goal
 use Rattle.image.specs.Image.{image_cells}
 use Rattle.image.specs.Laws.{image_few}
-use Rattle.std.proofs.Common.{length, sym, arith, rules}
+use Rattle.std.proofs.Common.{length, sym, arith}
 
 pub overflow_add-n : goal.overflow_add-n
 overflow_add-n c = let f = image_few c.args.bytes.now in omega arith

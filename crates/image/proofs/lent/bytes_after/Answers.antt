@@ -3,7 +3,7 @@ use Rattle.image.proofs.Placed.{whole}
 use Rattle.image.proofs.lent.bytes_after.Goals as goal
 use Rattle.store.specs.Entries.{puts_cells}
 use Rattle.image.specs.Image.{Bytes, image_cells, image_of, image_rest}
-use Rattle.std.proofs.Common.{◌≡◌, ℕ, List, ◌++◌, ap, ◌∙◌, subst, rules}
+use Rattle.std.proofs.Common.{◌≡◌, ℕ, List, ◌++◌, ap, ◌∙◌, rules}
 
 pub returns : goal.returns
 returns c =

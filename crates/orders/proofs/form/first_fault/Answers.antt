@@ -1,6 +1,5 @@
-use Rattle.std.proofs.Common.{◌≡◌, ℕ, ◌+◌, ◌-◌, ◌≤◌, true, false, List, [], ◌∷◌, length, sym, refl, ap, ◌∙◌, arith}
-use Rattle.orders.specs.declared.command.Command.{Command}
-use Rattle.orders.specs.Form.{form, reads_on, fault_of, size_of}
+use Rattle.std.proofs.Common.{◌≡◌, ℕ, ◌+◌, ◌-◌, length, sym, ap, ◌∙◌, arith}
+use Rattle.orders.specs.Form.{reads_on, fault_of, size_of}
 use Rattle.orders.proofs.Reading.{reads_end, misplaced, closing, passed, rest_length, shorter_rest, fault_with_first}
 use Rattle.orders.proofs.form.first_fault.Goals as goal
 

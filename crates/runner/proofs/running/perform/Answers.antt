@@ -1,7 +1,6 @@
-use Rattle.std.proofs.Common.{◌≡◌, ℕ, ◌+◌, ◌-◌, ◌<◌, ◌≤◌, length, drop, sym, refl, ap, ◌∙◌, subst, arith, rules}
+use Rattle.std.proofs.Common.{◌-◌, ◌≤◌, length, refl, arith}
 use Rattle.orders.specs.declared.command.Command.{Command}
 use Rattle.orders.specs.declared.command.Command.TheVariants.{Open, Put, Check, Commit, Discard}
-use Rattle.orders.specs.Form.{form, reads_on, fault_of, command_at, size_of}
 use Rattle.orders.proofs.Reading.{sound_some}
 use Rattle.engine.specs.Engines.{state_of}
 use Rattle.runner.proofs.Commands.{then_same, committed, discarded, closed_answer, turn, stop_state, stop_answer, close, never_open, next_sound, next_shorter}

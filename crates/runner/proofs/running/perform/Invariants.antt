@@ -1,4 +1,4 @@
-use Rattle.std.proofs.Common.{◌≡◌, ℕ, ◌-◌, ◌<◌, length, None}
+use Rattle.std.proofs.Common.{◌≡◌, ◌-◌, ◌<◌, length, None}
 use Rattle.orders.specs.Form.{fault_of, reads_on}
 use Rattle.runner.proofs.Commands.{Gives}
 use Rattle.engine.specs.Engines.{OnlyEdit, state_of}

@@ -1,10 +1,5 @@
-use Rattle.std.proofs.Common.{◌≡◌, ℕ, ◌+◌, ◌-◌, ◌<◌, ◌≤◌, length, drop, Ok, Err, Result, sym, refl, ap, ◌∙◌, subst, arith, rules}
-use Rattle.orders.specs.declared.command.Command.{Command}
-use Rattle.orders.specs.declared.command.Command.TheVariants.{Open, Put, Check, Commit, Discard}
-use Rattle.orders.specs.Form.{form, reads_on, fault_of, command_at, size_of}
+use Rattle.std.proofs.Common.{sym, ap, ◌∙◌}
 use Rattle.orders.proofs.Reading.{sound_some}
-use Rattle.refusal.specs.declared.refusal.Refusal.{Refusal}
-use Rattle.engine.specs.Book.{State, answer, step}
 use Rattle.engine.specs.Engines.{state_of}
 use Rattle.runner.proofs.Commands.{then_same, cells_too, edit_then_cells, tail_shorter, tail_sound, opened_gives, unopened_state, unopened_answer}
 use Rattle.runner.proofs.running.run.Goals as goal

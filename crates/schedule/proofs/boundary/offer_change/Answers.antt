@@ -1,4 +1,4 @@
-use Rattle.std.proofs.Common.{◌≡◌, ap}
+use Rattle.std.proofs.Common.{ap}
 use Rattle.tables.specs.Numbered.{alone}
 use Rattle.schedule.proofs.Soon.{pushed}
 use Rattle.schedule.proofs.boundary.offer_change.Goals as goal

@@ -1,4 +1,4 @@
-use Rattle.std.proofs.Common.{◌≡◌, Bool, ltb, sym, ap, ◌∙◌}
+use Rattle.std.proofs.Common.{Bool, ltb, sym, ap, ◌∙◌}
 use Rattle.keeper.specs.Best.{first_best}
 use Rattle.keeper.specs.Offers.{own, place_of, ranked}
 use Rattle.keeper.specs.declared.minute.Minute.{Minute}

@@ -1,4 +1,3 @@
-use Rattle.schedule.specs.Laws.{Laws}
 use Rattle.schedule.proofs.Both.{laws}
 use Rattle.schedule.proofs.laws.lawful_look.Goals as goal
 

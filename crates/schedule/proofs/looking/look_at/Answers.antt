@@ -1,4 +1,4 @@
-use Rattle.std.proofs.Common.{◌≡◌, arith, w32, w64, to_z, of_z}
+use Rattle.std.proofs.Common.{arith}
 use borrow.Author.Differences.{ints}
 use Rattle.tables.specs.Filled.{timetable_in}
 use Rattle.schedule.proofs.Wholes.{plan_is, whole}

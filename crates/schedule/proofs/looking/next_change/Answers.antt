@@ -1,4 +1,4 @@
-use Rattle.std.proofs.Common.{◌≡◌, rules}
+use Rattle.std.proofs.Common.{rules}
 use Rattle.std.proofs.lemmas.Int.{to_z-of_z}
 use Rattle.schedule.specs.Candidates.{next_change}
 use Rattle.schedule.proofs.looking.next_change.Goals as goal

@@ -1,4 +1,4 @@
-use Rattle.std.proofs.Common.{◌∙◌, arith, rules}
+use Rattle.std.proofs.Common.{◌∙◌, arith}
 use borrow.Author.Differences.{ints}
 use Rattle.schedule.specs.Openings.{opening_within}
 use Rattle.schedule.proofs.Openings.{step}

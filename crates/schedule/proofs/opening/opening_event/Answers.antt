@@ -1,6 +1,5 @@
-use Rattle.std.proofs.Common.{◌≡◌, ℤ, ap, ◌∙◌, arith}
+use Rattle.std.proofs.Common.{arith}
 use borrow.Author.Differences.{ints}
-use Rattle.schedule.specs.Openings.{opening_within}
 use Rattle.tables.specs.Filled.{timetable_in}
 use Rattle.schedule.proofs.Openings.{within_seven}
 use Rattle.schedule.proofs.opening.opening_event.Goals as goal

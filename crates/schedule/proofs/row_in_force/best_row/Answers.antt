@@ -1,9 +1,9 @@
-use Rattle.std.proofs.Common.{◌≡◌, Bool, sym, ap, ◌∙◌, arith}
+use Rattle.std.proofs.Common.{Bool, sym, ap, ◌∙◌}
 use Rattle.keeper.specs.Best.{first_best}
 use Rattle.keeper.specs.Fewer.{fewer}
 use Rattle.keeper.specs.Offers.{own, place_of, ranked}
 use Rattle.keeper.specs.declared.counts.Counts.{Counts}
-use Rattle.keeper.proofs.Offering.{offered, offer_taken, offer_left, offer_all, best_own}
+use Rattle.keeper.proofs.Offering.{offer_taken, offer_left, offer_all, best_own}
 use Rattle.schedule.specs.RowInForce.{fits, best_row}
 use Rattle.tables.specs.declared.row.Row.{Row}
 use Rattle.schedule.proofs.row_in_force.best_row.Goals as goal

@@ -1,4 +1,4 @@
-use Rattle.std.proofs.Common.{◌≡◌, ◌<◌, ◌≤◌, ℕ, ℤ, pos, ◌+ℤ◌, ◌≤ℤ◌, sym, ap, arith}
+use Rattle.std.proofs.Common.{◌≡◌, ◌<◌, ◌≤◌, ℕ, ℤ, pos, ◌+ℤ◌, ◌≤ℤ◌, sym, arith}
 use borrow.Author.Differences.{ints}
 use Rattle.summer.proofs.Spans.{moved, until_le, none_left, start_at, end_at}
 use Rattle.summer.proofs.yearly.next_end.Goals as goal

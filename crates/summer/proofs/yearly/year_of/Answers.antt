@@ -1,4 +1,4 @@
-use Rattle.std.proofs.Common.{◌+◌, ◌/◌, ◌≤◌, arith}
+use Rattle.std.proofs.Common.{◌+◌, ◌/◌, arith}
 use borrow.Author.Differences.{ints}
 use Rattle.summer.proofs.Spans.{until_le}
 use Rattle.summer.proofs.yearly.year_of.Goals as goal

@@ -1,4 +1,4 @@
-use Rattle.std.proofs.Common.{◌≡◌, ap, ◌∙◌, arith}
+use Rattle.std.proofs.Common.{ap, ◌∙◌, arith}
 use Rattle.tables.specs.Numbered.{numbered}
 use Rattle.tables.specs.Cells.{cell_at, row_at}
 use Rattle.tables.specs.Filled.{rows_in}

@@ -1,7 +1,7 @@
-use Rattle.std.proofs.Common.{◌≡◌, ℕ, ◌<◌, ◌≤◌, List, length, get_or, take, sym, ap, ◌∙◌, arith}
+use Rattle.std.proofs.Common.{◌≡◌, ◌<◌, ◌≤◌, length, get_or, take, sym, ap, ◌∙◌, arith}
 use Rattle.std.proofs.lemmas.List.{get_or-take}
 use Rattle.store.specs.declared.entry.Entry.{Entry}
-use Rattle.edit.specs.Drafts.{entry, place_in}
+use Rattle.edit.specs.Drafts.{entry}
 use Rattle.edit.proofs.Noted.{place_here, place_more, place_end, front_length}
 use Rattle.edit.proofs.edit.Edit.find.Goals as goal
 

@@ -1,8 +1,8 @@
-use Rattle.std.proofs.Common.{◌≡◌, ℕ, ◌+◌, ◌<◌, ◌≤◌, true, false, List, [], ◌∷◌, ◌++◌, length, take, set, sym, refl, ap, ◌∙◌, arith, length-set}
+use Rattle.std.proofs.Common.{◌≡◌, ℕ, ◌+◌, ◌<◌, ◌≤◌, false, List, [], ◌∷◌, ◌++◌, length, take, set, sym, ap, ◌∙◌, arith, length-set}
 use lib.Seq.{take-set-lt}
 use Rattle.std.proofs.lemmas.List.{take_more_set}
 use Rattle.store.specs.declared.entry.Entry.{Entry}
-use Rattle.edit.specs.Drafts.{Draft, draft_at, entry, place_in, note_draft}
+use Rattle.edit.specs.Drafts.{Draft, draft_at, entry, place_in}
 use Rattle.edit.proofs.Noted.{front_length, old_answer, old_draft, new_answer, new_draft, full_answer, full_draft, range_fits, fits_set, fits_push}
 use Rattle.edit.proofs.edit.Edit.put.Goals as goal
 

@@ -1,8 +1,7 @@
 use Rattle.layout.specs.Layout.{cell_count}
-use Rattle.std.proofs.lemmas.List.{length-set}
 use Rattle.store.proofs.Fronts.{front_rest, front_set, inside_words}
 use Rattle.store.proofs.words.WordStore.write.Goals as goal
-use Rattle.std.proofs.Common.{◌≡◌, length, sym, refl, ap, ◌∙◌}
+use Rattle.std.proofs.Common.{refl}
 use Rattle.store.specs.Words.{word_cells, word_rest}
 
 pub bounds-self-c : goal.bounds-self-c

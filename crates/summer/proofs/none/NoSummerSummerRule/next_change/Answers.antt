@@ -1,4 +1,4 @@
-use Rattle.std.proofs.Common.{false, None, sym, refl}
+use Rattle.std.proofs.Common.{false, None, refl}
 use Rattle.keeper.specs.Least.{changes}
 use Rattle.keeper.proofs.Leasts.{least_only}
 use Rattle.summer.proofs.none.NoSummerSummerRule.next_change.Goals as goal
