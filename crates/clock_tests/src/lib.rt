@@ -2,7 +2,7 @@
 #![tactic(auto)]
 
 #[cfg(test)]
-mod chip;
+mod calendar_chip;
 #[cfg(test)]
 mod counter;
 #[cfg(test)]

@@ -6,10 +6,10 @@ mod edits;
 #[cfg(test)]
 mod full;
 #[cfg(test)]
-mod orders;
-#[cfg(test)]
 mod parties;
 #[cfg(test)]
 mod rules;
 #[cfg(test)]
 mod tables;
+#[cfg(test)]
+mod work_orders;

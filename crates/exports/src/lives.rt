@@ -6,7 +6,7 @@ ghost use Rattle.history.specs.declared.calls.Answer.TheVariants.{Done};
 
 use crate::fields::{Fields, Outcome, Step, Told};
 use crate::looks::fields_of;
-use crate::orders::{cell_of, outcome_of, rule_of};
+use crate::work_orders::{cell_of, outcome_of, rule_of};
 use chip::CalendarChip;
 use clock::{CounterClock, SettableClock};
 use engine::Engine;

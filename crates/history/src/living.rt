@@ -1,7 +1,7 @@
 ghost use Rattle.std.specs.Prelude.{◌≡◌, ℕ, min, length, take, drop};
-ghost use Rattle.history.specs.Book.{came_to, done, kind_of, seen, told};
+ghost use Rattle.history.specs.Book.{answer, came_to, done, kind_of, seen, step, tick, told};
 ghost use Rattle.history.specs.History.{Lived, Turned, meaning};
-ghost use Rattle.engine.specs.Engines.{opened};
+ghost use Rattle.engine.specs.Engines.{opened, state_of};
 
 use crate::calls::{Answer, Call};
 use crate::ticket::{fresh_ticket, spend};
@@ -66,7 +66,13 @@ pub fn perform<C: SettableClock, S: Store, R: SummerRule>(
     engine: &mut Engine<C, S, R>,
     call: Call,
 ) -> Answer
-    ensures { Turned (kind_of C.SettableClock.first C.SettableClock.last C.SettableClock.span_for) (meaning C.Clock.time C.Clock.span S.cells S.rest S.home R.in_force engine.old) call.entry (meaning C.Clock.time C.Clock.span S.cells S.rest S.home R.in_force engine.new) result }
+    ensures answer { result ≡ answer (kind_of C.SettableClock.first C.SettableClock.last C.SettableClock.span_for) (R.in_force engine.old.rule) (C.Clock.time engine.old.clock, C.Clock.span engine.old.clock) (state_of S.cells engine.old) call.entry }
+    ensures time { (C.Clock.time engine.new.clock, C.Clock.span engine.new.clock) ≡ tick (kind_of C.SettableClock.first C.SettableClock.last C.SettableClock.span_for) (C.Clock.time engine.old.clock, C.Clock.span engine.old.clock) call.entry }
+    ensures book { state_of S.cells engine.new ≡ step (state_of S.cells engine.old) call.entry }
+    ensures rule { engine.new.rule ≡ engine.old.rule }
+    ensures memory { S.rest engine.new.store ≡ S.rest engine.old.store }
+    ensures home { S.home engine.new.store ≡ S.home engine.old.store }
+    ensures turned { Turned (kind_of C.SettableClock.first C.SettableClock.last C.SettableClock.span_for) (meaning C.Clock.time C.Clock.span S.cells S.rest S.home R.in_force engine.old) call.entry (meaning C.Clock.time C.Clock.span S.cells S.rest S.home R.in_force engine.new) result }
 {
     match call {
         Call::Look => seen(engine.look()),

@@ -5,7 +5,7 @@ use Rattle.exports.proofs.lives.live_each.Goals as goal
 pub loop-i-preserved : goal.loop-i-preserved
 loop-i-preserved g c = (
   turn_in c.told.result c.args.orders.now c.args.steps.now (record { call = 0; first = 0; second = 0 }) c.loop-i.answers c.min-n.result c.loop-i.i refl (omega arith) (omega arith) (omega arith)
-      c.loop-i.invariant.0 c.call_of.ensures c.perform-answer.ensures c.told.ensures,
+      c.loop-i.invariant.0 c.call_of.ensures c.perform-answer.ensures.turned c.told.ensures,
   drop-set-lt c.min-n.result c.loop-i.answers c.loop-i.i _ (omega arith) ∙ c.loop-i.invariant.1,
 )
 
