@@ -13,6 +13,7 @@ use summer::SummerRule;
 use tables::Tables;
 
 // The tables of a store's cells, made once for many looks.
+#[tactic(auto, using(crate::proofs::Copies::copied_tables))]
 pub fn tables_of<S: Store>(store: &S) -> Tables
     ensures { timetable_in result ≡ timetable (cell_at (S.cells store.now)) }
 {
