@@ -1,19 +1,19 @@
 use Rattle.std.proofs.Common.{◌≡◌, ℕ, zero, suc, ◌+◌, ◌-◌, ◌*◌, ◌/◌, ◌%◌, ◌<◌, ◌≤◌, Bool, true, false, cond, eqb, ℤ, pos, negsuc, ◌+ℤ◌, ◌-ℤ◌, ◌≤ℤ◌, ◌<ℤ◌, refl, ap, subst, add-zero, add-one, arith}
 use borrow.Author.Differences.{ints}
-use Rattle.calendar.specs.Months.{first_of, length_at, length_of, leap, year_at, month_at}
+use Rattle.calendar.specs.Months.{month_first_of, length_at, length_of, leap, year_at, month_at}
 use Rattle.calendar.specs.Dates.{InDays, IsDate}
 
-pub begins : first_of 0 ≡ negsuc 30
-unfolding first_of
+pub begins : month_first_of 0 ≡ negsuc 30
+unfolding month_first_of
 begins = refl
 
-pub ends : first_of 1635 ≡ pos 49732
-unfolding first_of length_at
+pub ends : month_first_of 1635 ≡ pos 49732
+unfolding month_first_of length_at
 ends = refl
 
-pub next : (k : ℕ) → first_of (k + 1) ≡ first_of k +ℤ pos (length_at k)
-unfolding first_of
-next k = ap first_of (add-one k)
+pub next : (k : ℕ) → month_first_of (k + 1) ≡ month_first_of k +ℤ pos (length_at k)
+unfolding month_first_of
+next k = ap month_first_of (add-one k)
 
 pick : (b : Bool) (x y n : ℕ) → x ≤ n → y ≤ n → cond b x y ≤ n
 pick true x y n p q = p
@@ -33,14 +33,14 @@ long y m =
     pick_from (eqb m 2) _ _ 28 (pick_from (leap y) 29 28 28 (omega arith) (omega arith))
     (pick_from (eqb m 4) _ _ 28 (omega arith) (pick_from (eqb m 6) _ _ 28 (omega arith) (pick_from (eqb m 9) _ _ 28 (omega arith) (pick_from (eqb m 11) 30 31 28 (omega arith) (omega arith)))))
 
-pub within : (k : ℕ) (n : ℤ) → n <ℤ first_of (k + 1) → n <ℤ (first_of k +ℤ pos 31)
+pub within : (k : ℕ) (n : ℤ) → n <ℤ month_first_of (k + 1) → n <ℤ (month_first_of k +ℤ pos 31)
 unfolding length_at
 within k n h =
     let e = next k in
     let s : length_at k ≤ 31 = short (year_at k) (month_at k) in
     omega (arith, ints)
 
-pub found : (n : ℤ) (k d : ℕ) → first_of k ≤ℤ n → n <ℤ first_of (k + 1) → pos d ≡ (n -ℤ first_of k) +ℤ pos 1
+pub found : (n : ℤ) (k d : ℕ) → month_first_of k ≤ℤ n → n <ℤ month_first_of (k + 1) → pos d ≡ (n -ℤ month_first_of k) +ℤ pos 1
     → IsDate n (1969 + (k + 11) / 12) ((k + 11) % 12 + 1) d
 unfolding length_at
 found n k d from to e =
@@ -55,20 +55,20 @@ found n k d from to e =
       begun = omega arith;
     }
 
-pub rises : (k j : ℕ) → first_of k ≤ℤ first_of (k + j)
+pub rises : (k j : ℕ) → month_first_of k ≤ℤ month_first_of (k + j)
 unfolding length_at
-rises k zero = let e : first_of (k + 0) ≡ first_of k = ap first_of (add-zero k) in omega (arith, ints)
+rises k zero = let e : month_first_of (k + 0) ≡ month_first_of k = ap month_first_of (add-zero k) in omega (arith, ints)
 rises k (suc j) =
     let h = rises k j in
-    let e : first_of (k + suc j) ≡ first_of (k + j + 1) = ap first_of (omega arith) in
+    let e : month_first_of (k + suc j) ≡ month_first_of (k + j + 1) = ap month_first_of (omega arith) in
     let f = next (k + j) in
     omega (arith, ints)
 
-pub climbs : (k l : ℕ) → k ≤ l → first_of k ≤ℤ first_of l
-climbs k l h = subst (λ (m : ℕ). first_of k ≤ℤ first_of m) (omega arith) (rises k (l - k))
+pub climbs : (k l : ℕ) → k ≤ l → month_first_of k ≤ℤ month_first_of l
+climbs k l h = subst (λ (m : ℕ). month_first_of k ≤ℤ month_first_of m) (omega arith) (rises k (l - k))
 
 -- a day lies in one month
-pub one_month : (n : ℤ) (k l : ℕ) → first_of k ≤ℤ n → n <ℤ first_of (k + 1) → first_of l ≤ℤ n → n <ℤ first_of (l + 1) → k ≡ l
+pub one_month : (n : ℤ) (k l : ℕ) → month_first_of k ≤ℤ n → n <ℤ month_first_of (k + 1) → month_first_of l ≤ℤ n → n <ℤ month_first_of (l + 1) → k ≡ l
 one_month n k l a b c d =
     let p : l < k → ⊥ = λ h. let r = climbs (l + 1) k (omega arith) in omega (arith, ints) in
     let q : k < l → ⊥ = λ h. let r = climbs (k + 1) l (omega arith) in omega (arith, ints) in
@@ -83,10 +83,10 @@ module _ (n : ℤ) (y m d : ℕ) (i : IsDate n y m d) where
       let f : (y * 12 + m - 23640 + 11) % 12 + 1 ≡ m = omega arith in
       rw (e, f)
 
-  pub from_first : first_of (y * 12 + m - 23640) ≤ℤ n
+  pub from_first : month_first_of (y * 12 + m - 23640) ≤ℤ n
   from_first = let e = i.number in let p = i.day_from in omega (arith, ints)
 
-  pub to_next : n <ℤ first_of (y * 12 + m - 23640 + 1)
+  pub to_next : n <ℤ month_first_of (y * 12 + m - 23640 + 1)
   to_next =
       let e = i.number in let p = i.day_to in let q = same_length in
       let f = next (y * 12 + m - 23640) in omega (arith, ints)
@@ -95,16 +95,16 @@ pub only : (n : ℤ) (y m d y' m' d' : ℕ) → IsDate n y m d → IsDate n y' m
 only n y m d y' m' d' i j =
     let k : y * 12 + m - 23640 ≡ y' * 12 + m' - 23640 =
     one_month n _ _ (from_first n y m d i) (to_next n y m d i) (from_first n y' m' d' j) (to_next n y' m' d' j) in
-    let e : first_of (y * 12 + m - 23640) ≡ first_of (y' * 12 + m' - 23640) = ap first_of k in
+    let e : month_first_of (y * 12 + m - 23640) ≡ month_first_of (y' * 12 + m' - 23640) = ap month_first_of k in
     let p = i.month_from in let q = i.month_to in let b = i.begun in let a = i.number in
     let p' = j.month_from in let q' = j.month_to in let b' = j.begun in let a' = j.number in
     (omega arith, omega arith, omega (arith, ints))
 
 -- what the way back cites: the month at a place k has a first and an end within the calendar
 pub record Bounds (k : ℕ) : Type 0 where
-  pub low : negsuc 30 ≤ℤ first_of k
-  pub up : first_of k ≤ℤ first_of (k + 1)
-  pub high : first_of (k + 1) ≤ℤ pos 49732
+  pub low : negsuc 30 ≤ℤ month_first_of k
+  pub up : month_first_of k ≤ℤ month_first_of (k + 1)
+  pub high : month_first_of (k + 1) ≤ℤ pos 49732
 
 pub bounds : (k : ℕ) → k < 1635 → Bounds k
 bounds k h =
@@ -121,7 +121,7 @@ late n y m d h r i =
     omega (arith, ints)
 
 pub made : (n : ℤ) (y m d k : ℕ) → 1 ≤ m → m ≤ 12 → 23640 ≤ y * 12 + m → k ≡ y * 12 + m - 23640 → k < 1635
-    → 1 ≤ d → pos d ≤ℤ (first_of (k + 1) -ℤ first_of k) → n +ℤ pos 1 ≡ first_of k +ℤ pos d → InDays n × IsDate n y m d
+    → 1 ≤ d → pos d ≤ℤ (month_first_of (k + 1) -ℤ month_first_of k) → n +ℤ pos 1 ≡ month_first_of k +ℤ pos d → InDays n × IsDate n y m d
 unfolding length_at
 made n y m d k p q b e h l u s =
     let g = bounds k h in
@@ -140,20 +140,20 @@ made n y m d k p q b e h l u s =
       },
     )
 
-pub no_day : (n : ℤ) (y m d k : ℕ) → k ≡ y * 12 + m - 23640 → ((first_of (k + 1) -ℤ first_of k) <ℤ pos d) → IsDate n y m d → ⊥
+pub no_day : (n : ℤ) (y m d k : ℕ) → k ≡ y * 12 + m - 23640 → ((month_first_of (k + 1) -ℤ month_first_of k) <ℤ pos d) → IsDate n y m d → ⊥
 no_day n y m d k e h i =
     let f = next (y * 12 + m - 23640) in
     let l = same_length n y m d i in
     let t = i.day_to in
-    let g : (first_of (y * 12 + m - 23640 + 1) -ℤ first_of (y * 12 + m - 23640)) <ℤ pos d = rw (← e) h in
+    let g : (month_first_of (y * 12 + m - 23640 + 1) -ℤ month_first_of (y * 12 + m - 23640)) <ℤ pos d = rw (← e) h in
     omega (arith, ints)
 
 -- a month that begins after a day of the calendar is not the first of the table, and one that begins by then not the last
-pub later_first : (k : ℕ) (n : ℤ) → negsuc 30 ≤ℤ n → n <ℤ first_of k → 0 < k
+pub later_first : (k : ℕ) (n : ℤ) → negsuc 30 ≤ℤ n → n <ℤ month_first_of k → 0 < k
 later_first zero n l h = let b = begins in absurd (omega (arith, ints))
 later_first (suc k) n l h = omega arith
 
-pub earlier_first : (k : ℕ) (n : ℤ) → n <ℤ pos 49732 → k < 1635 → first_of (k + 1) ≤ℤ n → k + 1 < 1635
+pub earlier_first : (k : ℕ) (n : ℤ) → n <ℤ pos 49732 → k < 1635 → month_first_of (k + 1) ≤ℤ n → k + 1 < 1635
 earlier_first k n u l h =
-    let not_last : k + 1 ≡ 1635 → ⊥ = λ e. let f : first_of (k + 1) ≡ first_of 1635 = ap first_of e in let g = ends in omega (arith, ints) in
+    let not_last : k + 1 ≡ 1635 → ⊥ = λ e. let f : month_first_of (k + 1) ≡ month_first_of 1635 = ap month_first_of e in let g = ends in omega (arith, ints) in
     omega arith

@@ -1,6 +1,6 @@
 -- The month-length rule of a table of month firsts: one test over the whole table, which antt computes, carried to each entry.
 use Rattle.std.proofs.Common.{◌≡◌, ℕ, zero, suc, ◌+◌, ◌<◌, Bool, true, false, T, eqb, List, [], ◌∷◌, length, get_or, ℤ, pos, negsuc, ◌+ℤ◌, sym, ap, ◌∙◌, subst, le_of_suc-le-suc, not-suc-le-zero, add-zero, add-suc, suc-add, zero-add, eqb→eq}
-use Rattle.calendar.specs.Months.{first_of, length_at, MonthFirsts}
+use Rattle.calendar.specs.Months.{month_first_of, length_at, MonthFirsts}
 
 abbrev pub both : Bool → Bool → Bool
 both true b = b
@@ -31,17 +31,17 @@ abbrev pub runs : ℕ → ℤ → List ℤ → Bool
 runs k z [] = true
 runs k z (x ∷ xs) = both (eq_z x z) (runs (suc k) (z +ℤ pos (length_at k)) xs)
 
-from : (xs : List ℤ) (k : ℕ) → T (runs k (first_of k) xs) → (j : ℕ) → j < length xs → get_or xs j (pos 0) ≡ first_of (k + j)
-unfolding first_of
+from : (xs : List ℤ) (k : ℕ) → T (runs k (month_first_of k) xs) → (j : ℕ) → j < length xs → get_or xs j (pos 0) ≡ month_first_of (k + j)
+unfolding month_first_of
 from [] k t j h = absurd (not-suc-le-zero h)
-from (x ∷ xs) k t zero h = eq_z→eq x (first_of k) (both_left (eq_z x (first_of k)) (runs (suc k) (first_of (suc k)) xs) t) ∙ ap first_of (sym (add-zero k))
+from (x ∷ xs) k t zero h = eq_z→eq x (month_first_of k) (both_left (eq_z x (month_first_of k)) (runs (suc k) (month_first_of (suc k)) xs) t) ∙ ap month_first_of (sym (add-zero k))
 from (x ∷ xs) k t (suc j) h =
-    from xs (suc k) (both_right (eq_z x (first_of k)) (runs (suc k) (first_of (suc k)) xs) t) j (le_of_suc-le-suc h)
-    ∙ ap first_of (suc-add k j ∙ sym (add-suc k j))
+    from xs (suc k) (both_right (eq_z x (month_first_of k)) (runs (suc k) (month_first_of (suc k)) xs) t) j (le_of_suc-le-suc h)
+    ∙ ap month_first_of (suc-add k j ∙ sym (add-suc k j))
 
-pub at : (xs : List ℤ) → T (runs 0 (negsuc 30) xs) → (j : ℕ) → j < length xs → get_or xs j (pos 0) ≡ first_of j
-unfolding first_of
-at xs t j h = from xs 0 t j h ∙ ap first_of (zero-add j)
+pub at : (xs : List ℤ) → T (runs 0 (negsuc 30) xs) → (j : ℕ) → j < length xs → get_or xs j (pos 0) ≡ month_first_of j
+unfolding month_first_of
+at xs t j h = from xs 0 t j h ∙ ap month_first_of (zero-add j)
 
 pub rule : (xs : List ℤ) → length xs ≡ 1636 → T (runs 0 (negsuc 30) xs) → MonthFirsts xs
 rule xs n t = record { size = n; entry = λ k h. at xs t k (subst (λ (m : ℕ). k < m) (sym n) h) }

@@ -2,7 +2,7 @@
 use Rattle.std.specs.Prelude.{◌≡◌, ℕ, ◌+◌, ◌-◌, ◌*◌, ◌≤◌, ℤ, pos, negsuc, ◌+ℤ◌, ◌≤ℤ◌, ◌<ℤ◌, Ok, Err, Result}
 use Rattle.refusal.specs.declared.refusal.Refusal.{Refusal}
 use Rattle.refusal.specs.declared.refusal.Refusal.TheVariants.{NoDate}
-use Rattle.calendar.specs.Months.{first_of, length_of}
+use Rattle.calendar.specs.Months.{month_first_of, length_of}
 
 -- the days from 1 December 1969 to 28 February 2106
 pub record InDays (n : ℤ) : Type 0 where
@@ -19,7 +19,7 @@ pub record IsDate (n : ℤ) (y m d : ℕ) : Type 0 where
   pub month_to : m ≤ 12
   pub day_from : 1 ≤ d
   pub day_to : d ≤ length_of y m
-  pub number : n +ℤ pos 1 ≡ first_of (place_of y m) +ℤ pos d
+  pub number : n +ℤ pos 1 ≡ month_first_of (place_of y m) +ℤ pos d
   pub begun : 23640 ≤ y * 12 + m
 
 -- the date of a day: the only one with that number; outside the calendar's days there is none

@@ -22,15 +22,15 @@ unfoldable pub length_at : ℕ → ℕ
 length_at k = length_of (year_at k) (month_at k)
 
 -- December 1969 begins at day -31, and each month where the one before ends
-unfoldable pub first_of : ℕ → ℤ
-first_of zero = negsuc 30
-first_of (suc k) = first_of k +ℤ pos (length_at k)
+unfoldable pub month_first_of : ℕ → ℤ
+month_first_of zero = negsuc 30
+month_first_of (suc k) = month_first_of k +ℤ pos (length_at k)
 
 -- the first of the month at a place, up to March 2106
 abbrev pub first_at : ℕ → Option ℤ
-first_at k = cond (nat_lt k 1636) (Some (first_of k)) None
+first_at k = cond (nat_lt k 1636) (Some (month_first_of k)) None
 
 -- the table has all 1,636 month firsts, each in its place
 pub record MonthFirsts (xs : List ℤ) : Type 0 where
   pub size : length xs ≡ 1636
-  pub entry : (k : ℕ) → k < 1636 → slice_index_or xs k (pos 0) ≡ first_of k
+  pub entry : (k : ℕ) → k < 1636 → slice_index_or xs k (pos 0) ≡ month_first_of k

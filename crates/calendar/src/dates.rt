@@ -1,6 +1,6 @@
 ghost use Rattle.std.specs.Prelude.{◌+◌, ◌<◌, pos, negsuc, ◌≤ℤ◌, ◌<ℤ◌};
 ghost use Rattle.calendar.specs.Dates.{DateOf, DayOf, SameDate, SameDay};
-ghost use Rattle.calendar.specs.Months.{first_of};
+ghost use Rattle.calendar.specs.Months.{month_first_of};
 
 use crate::months::first;
 use refusal::Refusal;
@@ -10,8 +10,8 @@ fn place_of(day: i32) -> usize
     requires from { negsuc 30 ≤ℤ day }
     requires to { day <ℤ pos 49732 }
     ensures within { result < 1635 }
-    ensures begun { first_of result ≤ℤ day }
-    ensures open { day <ℤ first_of (result + 1) }
+    ensures begun { month_first_of result ≤ℤ day }
+    ensures open { day <ℤ month_first_of (result + 1) }
 {
     let mut place = ((day + 31) as usize * 100 / 3044).min(1634);
     'back: while first(place) > day {

@@ -1,5 +1,5 @@
 ghost use Rattle.std.specs.Prelude.{◌≡◌, ◌<◌};
-ghost use Rattle.calendar.specs.Months.{MonthFirsts, first_of, first_at};
+ghost use Rattle.calendar.specs.Months.{MonthFirsts, month_first_of, first_at};
 
 // The day numbers of all month firsts, from December 1969 to March 2106.
 const FIRSTS: [i32; 1636] = [
@@ -147,7 +147,7 @@ pub fn month_first(place: usize) -> Option<i32>
 // The same at a place that the table has.
 pub(crate) fn first(place: usize) -> i32
     requires { place < 1636 }
-    ensures { result ≡ first_of place }
+    ensures { result ≡ month_first_of place }
 {
     let firsts = month_firsts();
     firsts[place]

@@ -5,19 +5,19 @@ use native.Mathlib.Omega.{arith}
 use Rattle.std.proofs.lemmas.Int.{ints}
 use Rattle.std.specs.Int.{w32}
 use Rattle.calendar.specs.Dates.{InDays, IsDate, place_of}
-use Rattle.calendar.specs.Months.{first_of, length_at, length_of}
+use Rattle.calendar.specs.Months.{month_first_of, length_at, length_of}
 use Rattle.calendar.proofs.MonthPlaces.{climbs, from_first, to_next}
 use Rattle.chip.specs.declared.moment.Moment.{Moment}
 use Rattle.chip.specs.Chip.{second_at}
 use Rattle.chip.specs.Moment.{Within, days_to, seconds_to}
 
 -- January 2000 and January 2100
-opens : first_of 361 ≡ pos 10957
-unfolding first_of length_at
+opens : month_first_of 361 ≡ pos 10957
+unfolding month_first_of length_at
 opens = refl
 
-closes : first_of 1561 ≡ pos 47482
-unfolding first_of length_at
+closes : month_first_of 1561 ≡ pos 47482
+unfolding month_first_of length_at
 closes = refl
 
 natural : (z : ℤ) → pos 0 ≤ℤ z → pos (unsigned_abs z) ≡ z
@@ -25,13 +25,13 @@ natural (pos n) h = refl
 natural (negsuc n) h = absurd (omega (arith, ints))
 
 module _ (y m d : ℕ) (years : Within 2000 y 2099) (months : Within 1 m 12) (days : Within 1 d (length_of y m)) where
-  from_opening : pos 10957 ≤ℤ first_of (place_of y m)
+  from_opening : pos 10957 ≤ℤ month_first_of (place_of y m)
   from_opening = let e = opens in let c = climbs 361 (place_of y m) (omega arith) in omega (arith, ints)
 
   pub dated : IsDate (pos (days_to y m d)) y m d
   unfolding days_to
   dated =
-      let n = natural (first_of (place_of y m)) (let f = from_opening in omega (arith, ints)) in
+      let n = natural (month_first_of (place_of y m)) (let f = from_opening in omega (arith, ints)) in
       record {
         month_from = months.0;
         month_to = months.1;

@@ -1,7 +1,7 @@
 -- Europe's summer of 2024, and the winters beside it.
 use Rattle.std.proofs.Common.{◌≡◌, ℕ, ◌+◌, ◌<◌, ◌≤◌, true, false, ℤ, pos, Some, sym, refl, ◌∙◌, arith}
 use borrow.Author.Differences.{ints}
-use Rattle.calendar.specs.Months.{first_of, length_at}
+use Rattle.calendar.specs.Months.{month_first_of, length_at}
 use Rattle.keeper.specs.Least.{least_later, changes}
 use Rattle.summer.specs.Sundays.{first_day}
 use Rattle.summer.specs.Years.{Current}
@@ -11,23 +11,23 @@ use Rattle.summer.proofs.Nexts.{next_at}
 use Rattle.summer.proofs.Spans.{on, off, until_le}
 
 ended : europe_until 53 ≡ 1698541200
-unfolding first_day first_of length_at
+unfolding first_day month_first_of length_at
 ended = refl
 
 begins : europe_from 54 ≡ 1711846800
-unfolding first_day first_of length_at
+unfolding first_day month_first_of length_at
 begins = refl
 
 ends : europe_until 54 ≡ 1729990800
-unfolding first_day first_of length_at
+unfolding first_day month_first_of length_at
 ends = refl
 
 begins_again : europe_from 55 ≡ 1743296400
-unfolding first_day first_of length_at
+unfolding first_day month_first_of length_at
 begins_again = refl
 
 ends_again : europe_until 55 ≡ 1761440400
-unfolding first_day first_of length_at
+unfolding first_day month_first_of length_at
 ends_again = refl
 
 -- the year of a second, from the ends of two years

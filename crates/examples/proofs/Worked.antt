@@ -1,7 +1,7 @@
 -- The worked examples, computed.
 use Rattle.std.proofs.Common.{◌≡◌, ℕ, ◌+◌, ◌<◌, ◌≤◌, Bool, true, false, ltb, List, [], ◌∷◌, map, length, ℤ, pos, negsuc, Some, Option, sym, refl, ap, ◌∙◌, ap₂, arith}
 use borrow.Author.Differences.{ints}
-use Rattle.calendar.specs.Months.{first_of, length_at, length_of}
+use Rattle.calendar.specs.Months.{month_first_of, length_at, length_of}
 use Rattle.calendar.specs.Dates.{InDays, IsDate, place_of}
 use Rattle.localtime.specs.Weekdays.{weekday_of}
 use Rattle.keeper.specs.Best.{beaten, first_unbeaten, first_best}
@@ -30,26 +30,26 @@ use Rattle.tables.specs.declared.row.Row.{Row}
 use Rattle.examples.proofs.Tabled.{always, christmas, table, tabled, row_by, plan_of_lem, by_parts, of_today, of_yesterday}
 
 -- the first days of three months of 2024
-march : first_of (place_of 2024 3) ≡ pos 19783
-unfolding first_of length_at
+march : month_first_of (place_of 2024 3) ≡ pos 19783
+unfolding month_first_of length_at
 march = refl
 
-october : first_of (place_of 2024 10) ≡ pos 19997
-unfolding first_of length_at
+october : month_first_of (place_of 2024 10) ≡ pos 19997
+unfolding month_first_of length_at
 october = refl
 
-december : first_of (place_of 2024 12) ≡ pos 20058
-unfolding first_of length_at
+december : month_first_of (place_of 2024 12) ≡ pos 20058
+unfolding month_first_of length_at
 december = refl
 
-date : (m first n k : ℕ) → 1 ≤ m → m ≤ 12 → first_of (place_of 2024 m) ≡ pos first → 1 ≤ k → k ≤ length_of 2024 m → n + 1 ≡ first + k → IsDate (pos n) 2024 m k
+date : (m first n k : ℕ) → 1 ≤ m → m ≤ 12 → month_first_of (place_of 2024 m) ≡ pos first → 1 ≤ k → k ≤ length_of 2024 m → n + 1 ≡ first + k → IsDate (pos n) 2024 m k
 date m first n k a b f c d e = record { month_from = a; month_to = b; day_from = c; day_to = d; number = omega (arith, ints); begun = omega arith }
 
 in_days : (n : ℕ) → n < 49732 → InDays (pos n)
 in_days n h = record { from = omega (arith, ints); to = omega (arith, ints) }
 
 -- the row of a day of 2024
-row_at : (m first n k w : ℕ) (r : Option Row) → 1 ≤ m → m ≤ 12 → first_of (place_of 2024 m) ≡ pos first → 1 ≤ k → k ≤ length_of 2024 m → n + 1 ≡ first + k → n < 49732
+row_at : (m first n k w : ℕ) (r : Option Row) → 1 ≤ m → m ≤ 12 → month_first_of (place_of 2024 m) ≡ pos first → 1 ≤ k → k ≤ length_of 2024 m → n + 1 ≡ first + k → n < 49732
     → weekday_of (pos n) ≡ w → best_row m w k table.rows ≡ r → row_on table.rows (pos n) ≡ r
 row_at m first n k w r a b f c d e h v q = row_by table.rows (pos n) 2024 m k w (in_days n h) (date m first n k a b f c d e) v ∙ q
 
@@ -156,8 +156,8 @@ unfolding look_of local_at local_time_of timetable
 west = refl
 
 -- 21 June 2024
-june : first_of (place_of 2024 6) ≡ pos 19875
-unfolding first_of length_at
+june : month_first_of (place_of 2024 6) ≡ pos 19875
+unfolding month_first_of length_at
 june = refl
 
 midsummer_row : row_number (row_on (timetable (cell_at midsummer)).rows (pos 19895)) ≡ 2
@@ -167,7 +167,7 @@ midsummer_row =
     (date 6 19875 19895 21 (omega arith) (omega arith) june (omega arith) (omega arith) refl) refl)
 
 last_of_1969 : IsDate (negsuc 0) 1969 12 31
-unfolding first_of
+unfolding month_first_of
 last_of_1969 = record { month_from = omega arith; month_to = omega arith; day_from = omega arith; day_to = omega arith; number = refl; begun = omega arith }
 
 orders_so : (made : List ℕ) → map (ran_on made) orders ≡ ordered

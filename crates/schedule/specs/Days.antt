@@ -1,19 +1,19 @@
 -- The month and the date of a day, by the calendar's month firsts. Assumes nothing.
 use Rattle.std.specs.Prelude.{ℕ, ◌-◌, ℤ, pos, ◌+ℤ◌, ◌-ℤ◌, Some, None, Option, int_lt, unsigned_abs}
-use Rattle.calendar.specs.Months.{first_of, month_at}
+use Rattle.calendar.specs.Months.{month_first_of, month_at}
 use Rattle.calendar.specs.Dates.{InDays, IsDate}
 use Rattle.keeper.specs.Least.{least_later}
 
 -- the first month that begins after a day: the day lies in the month before it
 unfoldable pub next_month : ℤ → Option ℕ
-next_month d = least_later (λ k. int_lt d (first_of k)) 0 1635
+next_month d = least_later (λ k. int_lt d (month_first_of k)) 0 1635
 
 abbrev pub month_before : Option ℕ → ℕ
 month_before (Some k) = month_at (k - 1)
 month_before None = 0
 
 abbrev pub date_before : ℤ → Option ℕ → ℕ
-date_before d (Some k) = unsigned_abs ((d -ℤ first_of (k - 1)) +ℤ pos 1)
+date_before d (Some k) = unsigned_abs ((d -ℤ month_first_of (k - 1)) +ℤ pos 1)
 date_before d None = 0
 
 -- the month of a day of the calendar, 1 to 12

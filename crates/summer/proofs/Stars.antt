@@ -1,6 +1,6 @@
 use Rattle.std.proofs.Common.{◌≡◌, ℕ, ◌+◌, ◌-◌, ◌<◌, ℤ, pos, negsuc, ◌+ℤ◌, ◌≤ℤ◌, ◌<ℤ◌, refl, arith}
 use borrow.Author.Differences.{ints}
-use Rattle.calendar.specs.Months.{first_of, length_at}
+use Rattle.calendar.specs.Months.{month_first_of, length_at}
 use Rattle.summer.specs.Sundays.{first_day}
 use Rattle.summer.specs.Years.{Ascending, Current}
 use Rattle.summer.specs.Laws.{america_from, america_until, europe_from, europe_until}
@@ -17,43 +17,43 @@ year from until asc t y f a b = record {
 }
 
 a53 : america_until 53 ≡ 1699164000 - 18000
-unfolding first_day first_of length_at
+unfolding first_day month_first_of length_at
 a53 = refl
 
 f54 : america_from 54 ≡ 1710054000 - 18000
-unfolding first_day first_of length_at
+unfolding first_day month_first_of length_at
 f54 = refl
 
 a54 : america_until 54 ≡ 1730613600 - 18000
-unfolding first_day first_of length_at
+unfolding first_day month_first_of length_at
 a54 = refl
 
 a55 : america_until 55 ≡ 1762063200 - 18000
-unfolding first_day first_of length_at
+unfolding first_day month_first_of length_at
 a55 = refl
 
 f55 : america_from 55 ≡ 1741503600 - 18000
-unfolding first_day first_of length_at
+unfolding first_day month_first_of length_at
 f55 = refl
 
 e53 : europe_until 53 ≡ 1698541200
-unfolding first_day first_of length_at
+unfolding first_day month_first_of length_at
 e53 = refl
 
 g54 : europe_from 54 ≡ 1711846800
-unfolding first_day first_of length_at
+unfolding first_day month_first_of length_at
 g54 = refl
 
 e54 : europe_until 54 ≡ 1729990800
-unfolding first_day first_of length_at
+unfolding first_day month_first_of length_at
 e54 = refl
 
 g55 : europe_from 55 ≡ 1743296400
-unfolding first_day first_of length_at
+unfolding first_day month_first_of length_at
 g55 = refl
 
 e55 : europe_until 55 ≡ 1761440400
-unfolding first_day first_of length_at
+unfolding first_day month_first_of length_at
 e55 = refl
 
 america_at : (s : ℕ) → pos (america_until 53) ≤ℤ (pos s +ℤ negsuc 17999) → (pos s +ℤ negsuc 17999) <ℤ pos (america_until 54) → Current america_until (pos s +ℤ negsuc 17999) 54

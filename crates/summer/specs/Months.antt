@@ -3,28 +3,28 @@ use Rattle.std.specs.Prelude.{◌≡◌, ℕ, zero, suc, ◌+◌, ◌*◌, ◌%�
 use Rattle.std.proofs.Common.{sym, ap, subst, ◌∙◌, arith}
 use Rattle.std.proofs.lemmas.Int.{ints}
 use Rattle.std.proofs.lemmas.Bool.{cond-true, lt-ltb}
-use Rattle.calendar.specs.Months.{first_of, first_at, length_at, year_at, month_at}
+use Rattle.calendar.specs.Months.{month_first_of, first_at, length_at, year_at, month_at}
 use Rattle.localtime.specs.Weekdays.{weekday_of}
 use Rattle.calendar.proofs.MonthPlaces.{next, long}
 use Rattle.summer.specs.Sundays.{first_day, first_sunday, last_sunday, Sunday, IsLastSunday, IsFirstSunday, IsSecondSunday}
 use Rattle.summer.specs.Years.{Ascending}
 use Rattle.summer.specs.Laws.{europe_from, europe_until, america_from, america_until}
 
-pub nat_of : (m : ℕ) → first_of (m + 1) ≡ pos (first_day m)
-unfolding first_day first_of length_at
+pub nat_of : (m : ℕ) → month_first_of (m + 1) ≡ pos (first_day m)
+unfolding first_day month_first_of length_at
 nat_of zero = refl
 nat_of (suc m) =
     let q : suc m + 1 ≡ suc (m + 1) = omega arith in
-    let e : first_of (suc m + 1) ≡ first_of (m + 1) +ℤ pos (length_at (m + 1)) = ap first_of q in
-    let f : first_of (suc m + 1) ≡ pos (first_day m + length_at (m + 1)) = e ∙ ap (λ (x : ℤ). x +ℤ pos (length_at (m + 1))) (nat_of m) in
+    let e : month_first_of (suc m + 1) ≡ month_first_of (m + 1) +ℤ pos (length_at (m + 1)) = ap month_first_of q in
+    let f : month_first_of (suc m + 1) ≡ pos (first_day m + length_at (m + 1)) = e ∙ ap (λ (x : ℤ). x +ℤ pos (length_at (m + 1))) (nat_of m) in
     f ∙ ap pos (sym (ap unsigned_abs f))
 
 -- the first that the table has
 pub day_of_lem : (m : ℕ) (d : ℤ) → m < 1635 → Some d ≡ first_at (m + 1) → d ≡ pos (first_day m)
 day_of_lem m d h e =
     let i : m + 1 < 1636 = omega arith in
-    let f : Some d ≡ Some (first_of (m + 1)) = e ∙ cond-true (nat_lt (m + 1) 1636) _ _ (lt-ltb (m + 1) 1636 i) in
-    let g : d ≡ first_of (m + 1) = cc in
+    let f : Some d ≡ Some (month_first_of (m + 1)) = e ∙ cond-true (nat_lt (m + 1) 1636) _ _ (lt-ltb (m + 1) 1636 i) in
+    let g : d ≡ month_first_of (m + 1) = cc in
     g ∙ nat_of m
 
 -- a month has 28 days or more
@@ -45,11 +45,11 @@ apart : (m n j : ℕ) → n ≡ m + j → first_day m + j * 28 ≤ first_day n
 apart m n j e = subst (λ (x : ℕ). first_day m + j * 28 ≤ first_day x) (sym e) (climbs m j)
 
 march_2106 : first_day 1634 ≡ 49732
-unfolding first_day first_of length_at
+unfolding first_day month_first_of length_at
 march_2106 = refl
 
 november_2105 : first_day 1630 ≡ 49612
-unfolding first_day first_of length_at
+unfolding first_day month_first_of length_at
 november_2105 = refl
 
 -- a Sunday by its remainder

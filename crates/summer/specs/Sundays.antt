@@ -1,11 +1,11 @@
 -- Sundays of the months from January 1970, which is month 0. Assumes nothing.
 use Rattle.std.specs.Prelude.{◌≡◌, ℕ, ◌+◌, ◌-◌, ◌%◌, ◌<◌, ◌≤◌, pos, unsigned_abs}
-use Rattle.calendar.specs.Months.{first_of}
+use Rattle.calendar.specs.Months.{month_first_of}
 use Rattle.localtime.specs.Weekdays.{weekday_of}
 
 -- the day number of a month's first
 unfoldable pub first_day : ℕ → ℕ
-first_day m = unsigned_abs (first_of (m + 1))
+first_day m = unsigned_abs (month_first_of (m + 1))
 
 abbrev pub Sunday : ℕ → Type 0
 Sunday d = weekday_of (pos d) ≡ 1
