@@ -1,4 +1,4 @@
-use crate::tables::{NO_EDIT, NO_ORDER, lives, two_tariffs};
+use crate::sample::{NO_EDIT, NO_ORDER, lives, two_tariffs};
 use history::{Answer, Call};
 use refusal::Refusal;
 

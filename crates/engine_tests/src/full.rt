@@ -1,4 +1,4 @@
-use crate::tables::two_tariffs;
+use crate::sample::two_tariffs;
 use clock::{Clock, CounterClock};
 use engine::{Engine, Ticket};
 use refusal::Refusal;

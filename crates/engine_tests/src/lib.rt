@@ -10,6 +10,6 @@ mod parties;
 #[cfg(test)]
 mod rules;
 #[cfg(test)]
-mod tables;
+mod sample;
 #[cfg(test)]
 mod work_orders;

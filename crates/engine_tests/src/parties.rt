@@ -1,4 +1,4 @@
-use crate::tables::two_tariffs;
+use crate::sample::two_tariffs;
 use archive::{confirm, confirm_unset};
 use clock::{CounterClock, InstantClock};
 use history::{Answer, Call};

@@ -1,4 +1,4 @@
-use crate::tables::{lives, two_tariffs};
+use crate::sample::{lives, two_tariffs};
 use history::{Answer, Call};
 use refusal::Refusal;
 

@@ -1,4 +1,4 @@
-use crate::tables::{NO_EDIT, lives, two_tariffs};
+use crate::sample::{NO_EDIT, lives, two_tariffs};
 use clock::CounterClock;
 use engine::Engine;
 use history::{Answer, Call};
