@@ -1,4 +1,4 @@
-//! The proved library, as `rt staticlib exports` builds it. Nothing checks these declarations against its sources.
+//! The proved library, as `rt lib` builds it in crates/exports. Nothing checks these declarations against its sources.
 
 #[repr(C)]
 #[derive(Clone, Copy, Default, PartialEq, Debug)]
