@@ -1,6 +1,6 @@
 ghost use Rattle.std.specs.Prelude.{◌≡◌, ℕ, ◌^◌, ◌<◌, [], ◌∷◌, ◌++◌, length, nat_lt, slice_set};
 ghost use Rattle.layout.specs.Layout.{width as cellWidth};
-ghost use Rattle.image.specs.Image.{Bytes, image_cells, image_of, image_rest};
+ghost use Rattle.image.specs.Image.{Bytes, image_cells, image_memory, image_of, image_rest};
 ghost use Rattle.image.specs.Laws.{image_laws};
 
 use crate::bytes::{count_cells, has_cell, holds, known, read_cell};
@@ -77,13 +77,9 @@ impl<'a> ImageStore<'a> {
 impl<'a> Store for ImageStore<'a> {
     ghost cells = { λ s. image_cells s.bytes.now };
 
-    ghost width = { λ s. cellWidth };
+    ghost memory = { λ s. image_memory s.bytes.now (s.bytes.ghost_name ∷ []) };
 
-    ghost rest = { λ s. image_rest s.bytes.now };
-
-    ghost home = { λ s. s.bytes.ghost_name ∷ [] };
-
-    ghost laws = { image_laws (λ s. s.bytes.now) };
+    ghost laws = { image_laws (λ s. s.bytes.now) (λ s. s.bytes.ghost_name ∷ []) };
 
     fn size(&self) -> u32 {
         count_cells(self.bytes)

@@ -16,11 +16,17 @@ put_answer cs w c v = cond (nat_lt c (length cs)) (cond (nat_lt v (256 ^ w c)) (
 abbrev pub put_cells : List ℕ → (ℕ → ℕ) → ℕ → ℕ → List ℕ
 put_cells cs w c v = cond (nat_lt c (length cs)) (cond (nat_lt v (256 ^ w c)) (slice_set cs c v) cs) cs
 
+-- what a store has beside its cells, which no Put changes: the bytes of each cell, the handed-over memory past the last one, and where that memory lies
+pub record Memory : Type 0 where
+  pub width : ℕ → ℕ
+  pub rest : List ℕ
+  pub home : List ℕ
+
 -- what every store keeps
-pub record StoreLaws {S : Type 0} (cells : S → List ℕ) (widths : S → ℕ → ℕ) : Type 0 where
+pub record StoreLaws {S : Type 0} (cells : S → List ℕ) (memory : S → Memory) : Type 0 where
   -- at most the cells of the layout
   pub few : (s : S) → length (cells s) ≤ cell_count
   -- no width less than the layout's
-  pub wide : (s : S) (c : ℕ) → width c ≤ widths s c
+  pub wide : (s : S) (c : ℕ) → width c ≤ (memory s).width c
   -- so that each value in range fits
-  pub range : (s : S) (c v : ℕ) → in_range c v ≡ true → v < 256 ^ widths s c
+  pub range : (s : S) (c v : ℕ) → in_range c v ≡ true → v < 256 ^ (memory s).width c

@@ -7,23 +7,10 @@ use refusal::Refusal;
 
 // Puts each entry in turn, and answers the first refusal, if any. A refused entry changes nothing, and the next one is put.
 pub fn put_each<S: Store>(store: &mut S, entries: &[Entry]) -> Result<(), Refusal>
-    ensures answer { result ≡ puts_answer (S.cells store.old) (S.width store.old) entries.now }
-    ensures after { S.cells store.new ≡ puts_cells (S.cells store.old) (S.width store.old) entries.now }
+    ensures answer { result ≡ puts_answer (S.cells store.old) (S.memory store.old).width entries.now }
+    ensures after { S.cells store.new ≡ puts_cells (S.cells store.old) (S.memory store.old).width entries.now }
     ensures range { InRange entries.now → S.cells store.new ≡ overwritten (S.cells store.old) entries.now }
-    ensures same { S.width store.new ≡ S.width store.old }
-    ensures memory { S.rest store.new ≡ S.rest store.old }
-    ensures home { S.home store.new ≡ S.home store.old }
-{
-    put_in_turn(store, entries)
-}
-
-fn put_in_turn<S: Store>(store: &mut S, entries: &[Entry]) -> Result<(), Refusal>
-    ensures answer { result ≡ puts_answer (S.cells store.old) (S.width store.old) entries.now }
-    ensures after { S.cells store.new ≡ puts_cells (S.cells store.old) (S.width store.old) entries.now }
-    ensures range { InRange entries.now → S.cells store.new ≡ overwritten (S.cells store.old) entries.now }
-    ensures same { S.width store.new ≡ S.width store.old }
-    ensures memory { S.rest store.new ≡ S.rest store.old }
-    ensures home { S.home store.new ≡ S.home store.old }
+    ensures same { S.memory store.new ≡ S.memory store.old }
 {
     let mut outcome = Ok(());
     for entry in entries {

@@ -1,5 +1,5 @@
 ghost use Rattle.std.specs.Prelude.{◌≡◌, ℕ, List, length};
-ghost use Rattle.store.specs.Cells.{get_answer, put_answer, put_cells, StoreLaws};
+ghost use Rattle.store.specs.Cells.{Memory, StoreLaws, get_answer, put_answer, put_cells};
 
 use refusal::Refusal;
 
@@ -8,17 +8,11 @@ pub trait Store {
     // The cells.
     ghost cells: { Self → List ℕ };
 
-    // The bytes of each cell.
-    ghost width: { Self → ℕ → ℕ };
-
-    // The handed-over memory past the last cell.
-    ghost rest: { Self → List ℕ };
-
-    // Where the handed-over memory lies: it stays the same memory.
-    ghost home: { Self → List ℕ };
+    // The bytes of each cell, the handed-over memory past the last one, and where it lies.
+    ghost memory: { Self → Memory };
 
     // What every store keeps of these.
-    ghost laws: { StoreLaws cells width };
+    ghost laws: { StoreLaws cells memory };
 
     // The number of cells.
     fn size(&self) -> u32
@@ -30,9 +24,7 @@ pub trait Store {
 
     // Makes a cell a value, and changes nothing else.
     fn put(&mut self, c: u32, v: u32) -> Result<(), Refusal>
-        ensures answer { result ≡ put_answer (cells self.old) (width self.old) c v }
-        ensures after { cells self.new ≡ put_cells (cells self.old) (width self.old) c v }
-        ensures same { width self.new ≡ width self.old }
-        ensures memory { rest self.new ≡ rest self.old }
-        ensures home { home self.new ≡ home self.old };
+        ensures answer { result ≡ put_answer (cells self.old) (memory self.old).width c v }
+        ensures after { cells self.new ≡ put_cells (cells self.old) (memory self.old).width c v }
+        ensures same { memory self.new ≡ memory self.old };
 }

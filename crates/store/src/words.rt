@@ -1,6 +1,6 @@
 ghost use Rattle.std.specs.Prelude.{◌≡◌, ℕ, ◌<◌, [], ◌∷◌, ◌++◌, length, slice_index, slice_set};
 ghost use Rattle.store.specs.Laws.{word_laws};
-ghost use Rattle.store.specs.Words.{word_cells, word_rest, word_width};
+ghost use Rattle.store.specs.Words.{word_cells, word_memory, word_rest};
 
 use crate::store::Store;
 use layout::CELLS;
@@ -50,13 +50,9 @@ impl<'a> WordStore<'a> {
 impl<'a> Store for WordStore<'a> {
     ghost cells = { λ s. word_cells s.words.now };
 
-    ghost width = { λ s. word_width };
+    ghost memory = { λ s. word_memory s.words.now (s.words.ghost_name ∷ []) };
 
-    ghost rest = { λ s. word_rest s.words.now };
-
-    ghost home = { λ s. s.words.ghost_name ∷ [] };
-
-    ghost laws = { word_laws (λ s. s.words.now) };
+    ghost laws = { word_laws (λ s. s.words.now) (λ s. s.words.ghost_name ∷ []) };
 
     fn size(&self) -> u32 {
         count_words(self.words)
