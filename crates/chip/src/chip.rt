@@ -1,7 +1,4 @@
-ghost use Rattle.std.specs.Prelude.{◌-◌};
-ghost use Rattle.chip.specs.Chip.{time_at};
-ghost use Rattle.chip.specs.Moment.{chip_first, chip_last};
-ghost use Rattle.clock.specs.Time.{span_to};
+ghost use Rattle.chip.specs.Chip.{chip_kind, chip_meaning};
 ghost use Rattle.chip.specs.ChipTimeLemmas;
 ghost use Rattle.std.proofs.Common.{rules};
 
@@ -18,9 +15,7 @@ pub struct CalendarChip {
 }
 
 impl Clock for CalendarChip {
-    ghost time = { λ c. time_at c.moment };
-
-    ghost span = { λ c. span_to chip_last (time_at c.moment) };
+    ghost meaning = { λ c. chip_meaning c.moment };
 
     ghost sound = { λ c. ChipTimeLemmas.sound c.moment };
 
@@ -36,11 +31,7 @@ impl Clock for CalendarChip {
 }
 
 impl SettableClock for CalendarChip {
-    ghost first = { chip_first };
-
-    ghost last = { chip_last };
-
-    ghost span_for = { λ s. chip_last - s };
+    ghost kind = { chip_kind };
 
     ghost ends = { Prim.search rules };
 

@@ -10,9 +10,9 @@ abbrev pub final_second : ℕ
 final_second = 4294967295
 
 -- the span is 0 without a time, and time plus span never passes the last second
-abbrev pub Sound : Option ℕ → ℕ → Type 0
-Sound None span = span ≡ 0
-Sound (Some t) span = t + span ≤ final_second
+abbrev pub Sound : Meaning → Type 0
+Sound (None, span) = span ≡ 0
+Sound (Some t, span) = t + span ≤ final_second
 
 -- n seconds change nothing without a time; within the span they go from the span to the time, and beyond it the time is lost
 abbrev pub passed : Meaning → ℕ → Meaning
@@ -23,3 +23,7 @@ passed (Some t, span) n = cond (nat_le n span) (Some (t + n), span - n) (None, 0
 abbrev pub span_to : ℕ → Option ℕ → ℕ
 span_to end None = 0
 span_to end (Some t) = end - t
+
+-- a time that is vouched for up to the given second
+abbrev pub until : ℕ → Option ℕ → Meaning
+until end time = (time, span_to end time)

@@ -1,6 +1,7 @@
-ghost use Rattle.std.specs.Prelude.{◌≡◌, ◌-◌, ◌≤◌};
+ghost use Rattle.std.specs.Prelude.{◌≡◌, ◌≤◌};
 ghost use Rattle.std.specs.Option.{unwrap_or};
-ghost use Rattle.clock.specs.Time.{final_second, span_to};
+ghost use Rattle.clock.specs.Setting.{counter_kind};
+ghost use Rattle.clock.specs.Time.{final_second, until};
 ghost use Rattle.std.proofs.Common.{rules, arith};
 
 use crate::time::{Clock, SettableClock};
@@ -16,9 +17,7 @@ pub struct CounterClock {
 }
 
 impl Clock for CounterClock {
-    ghost time = { λ c. c.second };
-
-    ghost span = { λ c. span_to final_second c.second };
+    ghost meaning = { λ c. until final_second c.second };
 
     ghost sound = { first_of (Prim.search rules, Prim.grind (arith, Self.row.coded.inj)) };
 
@@ -34,11 +33,7 @@ impl Clock for CounterClock {
 }
 
 impl SettableClock for CounterClock {
-    ghost first = { 0 };
-
-    ghost last = { final_second };
-
-    ghost span_for = { λ s. final_second - s };
+    ghost kind = { counter_kind };
 
     ghost ends = { first_of (Prim.search rules, Prim.grind (arith, Self.row.coded.inj)) };
 

@@ -15,9 +15,7 @@ pub struct InstantClock {
 }
 
 impl Clock for InstantClock {
-    ghost time = { λ c. c.second };
-
-    ghost span = { λ _. 0 };
+    ghost meaning = { λ c. (c.second, 0) };
 
     ghost sound = { first_of (Prim.search rules, Prim.grind (arith, Self.row.coded.inj)) };
 

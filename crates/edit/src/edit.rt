@@ -103,9 +103,7 @@ impl Edit {
     // Writes each entry into the store, and nothing else.
     pub fn write_into<S: Store>(&self, store: &mut S)
         ensures after { S.cells store.new ≡ overwritten (S.cells store.old) (take self.now.count self.now.table) }
-        ensures same { S.width store.new ≡ S.width store.old }
-        ensures memory { S.rest store.new ≡ S.rest store.old }
-        ensures home { S.home store.new ≡ S.home store.old }
+        ensures same { S.memory store.new ≡ S.memory store.old }
     {
         for i in 0..self.count {
             let e = self.table[i];

@@ -3,6 +3,7 @@ use Rattle.std.specs.Prelude.{◌≡◌, ℕ, List, Some, None, Ok, Err, Option,
 use Rattle.edit.specs.declared.edit.Edit.{Edit}
 use Rattle.edit.specs.Drafts.{Draft, draft_at}
 use Rattle.refusal.specs.declared.refusal.Refusal.{Refusal}
+use Rattle.store.specs.Cells.{Memory}
 use Rattle.engine.specs.declared.ticket.Ticket.{Ticket}
 use Rattle.engine.specs.declared.engine.Engine.{Engine}
 use Rattle.engine.specs.Book.{State}
@@ -34,8 +35,8 @@ module _ {C S R : Type 0} where
     pub store : after.store ≡ before.store
     pub rule : after.rule ≡ before.rule
 
-  -- nothing but cells and the edit may have changed
-  pub record OnlyCells (width : S → ℕ → ℕ) (before after : Engine C S R) : Type 0 where
+  -- nothing but cells and the edit may have changed: the memory past the cells is untouched
+  pub record OnlyCells (memory_of : S → Memory) (before after : Engine C S R) : Type 0 where
     pub clock : after.clock ≡ before.clock
     pub rule : after.rule ≡ before.rule
-    pub widths : width after.store ≡ width before.store
+    pub memory : memory_of after.store ≡ memory_of before.store

@@ -68,9 +68,7 @@ impl<C: Clock, S: Store, R: SummerRule> Engine<C, S, R> {
     pub fn commit(&mut self, ticket: Ticket) -> Result<(), Refusal>
         ensures answer { result ≡ answer (state_of S.cells self.old) Commit }
         ensures after { state_of S.cells self.new ≡ step (state_of S.cells self.old) Commit }
-        ensures same { OnlyCells (S.width) self.old self.new }
-        ensures memory { S.rest self.new.store ≡ S.rest self.old.store }
-        ensures home { S.home self.new.store ≡ S.home self.old.store }
+        ensures same { OnlyCells S.memory self.old self.new }
     {
         ticket.spend();
         match self.edit.take() {

@@ -24,7 +24,7 @@ pub fn tables_of<S: Store>(store: &S) -> Tables
 impl<C: Clock, S: Store, R: SummerRule> Engine<C, S, R> {
     // The eight fields at the clock's time, or a refusal without a time. It changes nothing.
     pub fn look(&self) -> Result<Look, Refusal>
-        ensures { result ≡ look_answer (R.in_force self.now.rule) (S.cells self.now.store) (C.time self.now.clock) }
+        ensures { result ≡ look_answer (R.in_force self.now.rule) (S.cells self.now.store) (C.meaning self.now.clock).0 }
     {
         match self.clock.read() {
             Some(second) => Ok(look(&tables_of(&self.store), &self.rule, second)),

@@ -12,7 +12,7 @@ use summer::SummerRule;
 impl<C: Clock, S: Store, R: SummerRule> Engine<C, S, R> {
     // Lets seconds pass.
     pub fn pass(&mut self, n: u32)
-        ensures after { (C.Clock.time self.new.clock, C.Clock.span self.new.clock) ≡ passed (C.Clock.time self.old.clock, C.Clock.span self.old.clock) n }
+        ensures after { C.meaning self.new.clock ≡ passed (C.meaning self.old.clock) n }
         ensures same { OnlyTime self.old self.new }
     {
         self.clock.pass(n);
@@ -22,8 +22,8 @@ impl<C: Clock, S: Store, R: SummerRule> Engine<C, S, R> {
 impl<C: SettableClock, S: Store, R: SummerRule> Engine<C, S, R> {
     // Sets the clock, where its kind accepts the second.
     pub fn set(&mut self, s: u32) -> Result<(), Refusal>
-        ensures answer { result ≡ set_answer C.SettableClock.first C.SettableClock.last s }
-        ensures after { (C.Clock.time self.new.clock, C.Clock.span self.new.clock) ≡ adjusted C.SettableClock.first C.SettableClock.last C.SettableClock.span_for (C.Clock.time self.old.clock, C.Clock.span self.old.clock) s }
+        ensures answer { result ≡ set_answer C.kind s }
+        ensures after { C.meaning self.new.clock ≡ adjusted C.kind (C.meaning self.old.clock) s }
         ensures same { OnlyTime self.old self.new }
     {
         self.clock.set(s)

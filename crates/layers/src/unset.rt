@@ -1,4 +1,5 @@
-ghost use Rattle.layers.specs.Unset.{unset_span, unset_time};
+ghost use Rattle.clock.specs.Setting.{no_kind};
+ghost use Rattle.layers.specs.Unset.{unset_meaning};
 ghost use Rattle.std.specs.Prelude.{◌≡◌};
 ghost use Rattle.std.proofs.Common.{rules};
 
@@ -13,17 +14,14 @@ pub struct Unset<C> {
 
 impl<C: Clock> Unset<C> {
     pub fn new(clock: C) -> Unset<C>
-        ensures time { unset_time C.Clock.time result ≡ C.Clock.time clock }
-        ensures span { unset_span C.Clock.span result ≡ C.Clock.span clock }
+        ensures answer { unset_meaning C.meaning result ≡ C.meaning clock }
     {
         Unset { clock }
     }
 }
 
 impl<C: Clock> Clock for Unset<C> {
-    ghost time = { unset_time C.Clock.time };
-
-    ghost span = { unset_span C.Clock.span };
+    ghost meaning = { unset_meaning C.meaning };
 
     ghost sound = { Prim.search rules };
 
@@ -37,11 +35,7 @@ impl<C: Clock> Clock for Unset<C> {
 }
 
 impl<C: Clock> SettableClock for Unset<C> {
-    ghost first = { 1 };
-
-    ghost last = { 0 };
-
-    ghost span_for = { λ s. 0 };
+    ghost kind = { no_kind };
 
     ghost ends = { Prim.search rules };
 

@@ -1,5 +1,5 @@
-ghost use Rattle.std.specs.Prelude.{◌≡◌, min};
-ghost use Rattle.layers.specs.Vouching.{layer_span, layer_time, vouched_seconds};
+ghost use Rattle.std.specs.Prelude.{◌≡◌, Some};
+ghost use Rattle.layers.specs.Vouching.{layer_meaning, vouched, vouched_kind, vouched_seconds};
 ghost use Rattle.std.proofs.Common.{rules};
 
 use clock::{Clock, SettableClock};
@@ -19,8 +19,7 @@ pub struct Vouching<C> {
 impl<C: Clock> Vouching<C> {
     // A layer that vouches for all its days from now on.
     pub fn new(lower: C) -> Vouching<C>
-        ensures time { layer_time C.Clock.time result ≡ C.Clock.time lower }
-        ensures span { layer_span C.Clock.span result ≡ min (C.Clock.span lower) vouched_seconds }
+        ensures answer { layer_meaning C.meaning result ≡ vouched (C.meaning lower) (Some vouched_seconds) }
     {
         Vouching {
             lower,
@@ -30,17 +29,13 @@ impl<C: Clock> Vouching<C> {
 }
 
 impl<C: Clock> Clock for Vouching<C> {
-    ghost time = { layer_time C.Clock.time };
-
-    ghost span = { layer_span C.Clock.span };
+    ghost meaning = { layer_meaning C.meaning };
 
     ghost sound = { Prim.search rules };
 
     fn read(&self) -> Option<u32> {
-        match self.left {
-            Some(_) => self.lower.read(),
-            None => None,
-        }
+        self.left?;
+        self.lower.read()
     }
 
     fn pass(&mut self, n: u32) {
@@ -52,11 +47,7 @@ impl<C: Clock> Clock for Vouching<C> {
 }
 
 impl<C: SettableClock> SettableClock for Vouching<C> {
-    ghost first = { C.SettableClock.first };
-
-    ghost last = { C.SettableClock.last };
-
-    ghost span_for = { λ s. min (C.SettableClock.span_for s) vouched_seconds };
+    ghost kind = { vouched_kind C.kind };
 
     ghost ends = { Prim.search rules };
 

@@ -7,10 +7,11 @@ use Rattle.orders.proofs.Reading.{sound_last, sound_on, sound_next, sound_stands
 use Rattle.std.proofs.lemmas.Bool.{eqb-true}
 use Rattle.refusal.specs.declared.refusal.Refusal.{Refusal}
 use Rattle.runner.specs.declared.stopped.Stopped.{Stopped}
+use Rattle.store.specs.Cells.{Memory}
 use Rattle.engine.specs.declared.engine.Engine.{Engine}
 use Rattle.engine.specs.Engines.{OnlyEdit, OnlyCells}
 use Rattle.engine.specs.Book.{State, answer, step}
-use Rattle.runner.specs.Run.{undone, went, said, run_state, run_answer, order_state, order_answer}
+use Rattle.runner.specs.Run.{Ended, Ending, undone, went, said, placed, finish_answer, finish_state, run_state, run_answer, order_state, order_answer}
 
 -- what is done so far gives the whole
 pub record Gives (s : State) (f : Form) (t : State) (g : Form) : Type 0 where
@@ -62,6 +63,21 @@ module _ (s : State) (place : ℕ) (bytes next : List ℕ) (c : Command) (found 
 pub gives_then : {s t u : State} {f g h : Form} → Gives s f t g → Gives t g u h → Gives s f u h
 gives_then a b = record { state = b.state ∙ a.state; said = b.said ∙ a.said }
 
+-- what is known of an answer by its refusal with a place
+pub placed_ok : {T : Type 0} (p : ℕ) (r : Result T Refusal) (x : T) → placed p r ≡ Ok x → r ≡ Ok x
+placed_ok p (Ok y) x e = let s : y ≡ x = cc in ap Ok s
+placed_ok p (Err why) x e = let y : ◌≡◌ {A = ℕ} 0 1 = cc in absurd (omega arith)
+
+pub placed_err : {T : Type 0} (p : ℕ) (r : Result T Refusal) (x : Stopped) → placed p r ≡ Err x → (r ≡ Err x.why) × (record { place = p; why = x.why } ≡ x)
+placed_err p (Ok y) x e = let z : ◌≡◌ {A = ℕ} 0 1 = cc in absurd (omega arith)
+placed_err p (Err why) x e =
+    let s : record { place = p; why = why } ≡ x = cc in
+    (ap (λ (y : Stopped). Err y.why) s, ap (λ (n : ℕ). record { place = n; why = x.why }) (ap (λ (y : Stopped). y.place) s))
+
+placed_said : (p : ℕ) (r : Result (Unit {0}) Refusal) → placed p r ≡ said r p (Ok tt)
+placed_said p (Ok u) = refl
+placed_said p (Err why) = refl
+
 -- one command of an order without a fault, read from its tail
 module _ (len : ℕ) (bytes next : List ℕ) (k c : Command) (found : command_at bytes ≡ Some k) (rest : next ≡ drop (size_of k) bytes) (is : k ≡ c) (within : length bytes ≤ len) (sound : fault_of (reads_on (len - length bytes) bytes) ≡ None) where
   found' : command_at bytes ≡ Some c
@@ -97,6 +113,20 @@ module _ (len : ℕ) (bytes next : List ℕ) (k c : Command) (found : command_at
     pub stop_answer : (r : Refusal) → closes c ≡ false → Err r ≡ answer t c → Err (record { place = len - length bytes; why = r }) ≡ order_answer s f
     stop_answer r h a = refused_answer t (len - length bytes) bytes next c found' rest' sound h r a ∙ so_far.said
 
+    -- a command that does not close the order: accepted, what is left gives the whole; refused, the order has ended
+    module _ (u : State) (r : Result (Unit {0}) Refusal) (stays : closes c ≡ false) (says : r ≡ answer t c) (did : u ≡ step t c) where
+      pub accepted : (x : Unit {0}) → placed (len - length bytes) r ≡ Ok x → Gives s f u (reads_on (len - length next) next)
+      accepted x e = turn u stays (sym (placed_ok (len - length bytes) r x e) ∙ says) did
+
+      pub refused : (x : Stopped) (e : Ending) → placed (len - length bytes) r ≡ Err x → e ≡ Err x → step u Discard ≡ undone c u → Ended s f e u
+      refused x e h g d =
+          let p = placed_err (len - length bytes) r x h in
+          let a : Err x.why ≡ answer t c = sym p.0 ∙ says in
+          record {
+            state = ap (finish_state u) g ∙ d ∙ stop_state u x.why stays a did;
+            said = ap (finish_answer u) g ∙ ap Err (sym p.1) ∙ stop_answer x.why stays a;
+          }
+
     pub close : closes c ≡ true → Gives s f t (only (len - length bytes) c)
     close h = gives_then so_far (closing_gives t (len - length bytes) bytes next c found' rest' sound h)
 
@@ -122,9 +152,9 @@ module _ {s : State} {f : Form} (t : State) (place : ℕ) where
   unfolding run_state
   discarded g = sym (same_way (answer t Discard) (step t Discard)) ∙ g.state
 
-  pub closed_answer : (c : Command) → Gives s f t (only place c) → said (answer t c) place (Ok tt) ≡ order_answer s f
+  pub closed_answer : (c : Command) → Gives s f t (only place c) → placed place (answer t c) ≡ order_answer s f
   unfolding run_answer
-  closed_answer c g = g.said
+  closed_answer c g = placed_said place (answer t c) ∙ g.said
 
 abbrev stopped_at : Refusal → ℕ → Result (Unit {0}) Stopped
 stopped_at r p = Err (record { place = p; why = r })
@@ -172,8 +202,8 @@ module _ {C S R : Type 0} {a b c : Engine C S R} where
   pub then_same : OnlyEdit a b → OnlyEdit b c → OnlyEdit a c
   then_same x y = record { clock = y.clock ∙ x.clock; store = y.store ∙ x.store; rule = y.rule ∙ x.rule }
 
-  pub edit_then_cells : (width : S → ℕ → ℕ) → OnlyEdit a b → OnlyCells width b c → OnlyCells width a c
-  edit_then_cells width x y = record { clock = y.clock ∙ x.clock; rule = y.rule ∙ x.rule; widths = y.widths ∙ ap width x.store }
+  pub edit_then_cells : (memory_of : S → Memory) → OnlyEdit a b → OnlyCells memory_of b c → OnlyCells memory_of a c
+  edit_then_cells memory_of x y = record { clock = y.clock ∙ x.clock; rule = y.rule ∙ x.rule; memory = y.memory ∙ ap memory_of x.store }
 
-pub cells_too : {C S R : Type 0} {a b : Engine C S R} (width : S → ℕ → ℕ) → OnlyEdit a b → OnlyCells width a b
-cells_too width x = record { clock = x.clock; rule = x.rule; widths = ap width x.store }
+pub cells_too : {C S R : Type 0} {a b : Engine C S R} (memory_of : S → Memory) → OnlyEdit a b → OnlyCells memory_of a b
+cells_too memory_of x = record { clock = x.clock; rule = x.rule; memory = ap memory_of x.store }

@@ -6,8 +6,8 @@ use Rattle.orders.specs.Form.{Form, Placed, form}
 use Rattle.refusal.specs.declared.refusal.Refusal.{Refusal}
 use Rattle.refusal.specs.declared.refusal.Refusal.TheVariants.{BadOrder}
 use Rattle.runner.specs.declared.stopped.Stopped.{Stopped}
-use Rattle.runner.specs.declared.stopped.Ending.{Ending}
-use Rattle.runner.specs.declared.stopped.Ending.TheVariants as ending
+use Rattle.runner.specs.declared.stopped.Closing.{Closing}
+use Rattle.runner.specs.declared.stopped.Closing.TheVariants as closing
 use Rattle.engine.specs.Book.{State, answer, step}
 
 -- a refused command ends the run and discards the edit that the run opened; a refused Open opened none
@@ -25,6 +25,11 @@ went (Err r) on stop = stop
 abbrev pub said : Result (Unit {0}) Refusal → ℕ → Result (Unit {0}) Stopped → Result (Unit {0}) Stopped
 said (Ok u) place on = on
 said (Err r) place on = Err (record { place = place; why = r })
+
+-- a refusal with the place of its command
+abbrev pub placed : {T : Type 0} → ℕ → Result T Refusal → Result T Stopped
+placed place (Ok x) = Ok x
+placed place (Err why) = Err (record { place = place; why = why })
 
 -- the book after the commands, up to the first refusal
 unfoldable pub run_state : State → List Placed → State
@@ -51,16 +56,20 @@ ran s order = order_state s (form order)
 abbrev pub ran_answer : State → List ℕ → Result (Unit {0}) Stopped
 ran_answer s order = order_answer s (form order)
 
--- how an order ends is carried out with the ticket
+-- how an order ends, by its closing command or by a refusal
+abbrev pub Ending : Type 0
+Ending = Result Closing Stopped
+
+-- it is carried out with the ticket
 abbrev pub finish_state : State → Ending → State
-finish_state s (ending.Commit p) = step s Commit
-finish_state s (ending.Discard p) = step s Discard
-finish_state s (ending.Refused x) = step s Discard
+finish_state s (Ok (closing.Commit p)) = step s Commit
+finish_state s (Ok (closing.Discard p)) = step s Discard
+finish_state s (Err x) = step s Discard
 
 abbrev pub finish_answer : State → Ending → Result (Unit {0}) Stopped
-finish_answer s (ending.Commit p) = said (answer s Commit) p (Ok tt)
-finish_answer s (ending.Discard p) = said (answer s Discard) p (Ok tt)
-finish_answer s (ending.Refused x) = Err x
+finish_answer s (Ok (closing.Commit p)) = placed p (answer s Commit)
+finish_answer s (Ok (closing.Discard p)) = placed p (answer s Discard)
+finish_answer s (Err x) = Err x
 
 pub record Ended (s : State) (f : Form) (e : Ending) (t : State) : Type 0 where
   pub state : finish_state t e ≡ order_state s f

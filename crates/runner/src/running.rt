@@ -1,9 +1,9 @@
-ghost use Rattle.std.specs.Prelude.{◌≡◌, ◌-◌, ◌<◌, length, None, Ok};
+ghost use Rattle.std.specs.Prelude.{◌≡◌, ◌-◌, ◌<◌, length, None};
 ghost use Rattle.orders.specs.Form.{fault_of, reads_on};
-ghost use Rattle.runner.specs.Run.{ran, ran_answer, said, Ended, finish_answer, finish_state};
+ghost use Rattle.runner.specs.Run.{Ended, finish_answer, finish_state, placed, ran, ran_answer};
 ghost use Rattle.engine.specs.Engines.{OnlyCells, OnlyEdit, state_of};
 
-use crate::stopped::{Ending, Stopped};
+use crate::stopped::{Closing, Stopped};
 use clock::Clock;
 use engine::{Engine, Ticket};
 use orders::{Command, fault, next_command};
@@ -11,13 +11,13 @@ use refusal::Refusal;
 use store::Store;
 use summer::SummerRule;
 
-// The commands between Open and the closing one, of an order of this length, read from its tail.
+// The commands between Open and the closing one, of an order of this length, read from its tail: up to the first refusal.
 fn perform<C: Clock, S: Store, R: SummerRule>(
     engine: &mut Engine<C, S, R>,
     t: &Ticket,
     len: usize,
     tail: &[u8],
-) -> Ending
+) -> Result<Closing, Stopped>
     requires { (length tail.now < len) × (fault_of (reads_on (len - length tail.now) tail.now) ≡ None) }
     ensures ended { Ended (state_of S.cells engine.old) (reads_on (len - length tail.now) tail.now) result (state_of S.cells engine.new) }
     ensures same { OnlyEdit engine.old engine.new }
@@ -30,18 +30,10 @@ fn perform<C: Clock, S: Store, R: SummerRule>(
         };
         match command {
             Command::Open => unreachable(),
-            Command::Put(c, v) => {
-                if let Err(why) = engine.put(t, c, v) {
-                    return Ending::Refused(Stopped { place, why });
-                }
-            }
-            Command::Check => {
-                if let Err(why) = engine.check() {
-                    return Ending::Refused(Stopped { place, why });
-                }
-            }
-            Command::Commit => return Ending::Commit(place),
-            Command::Discard => return Ending::Discard(place),
+            Command::Put(c, v) => placed(place, engine.put(t, c, v))?,
+            Command::Check => placed(place, engine.check())?,
+            Command::Commit => return Ok(Closing::Commit(place)),
+            Command::Discard => return Ok(Closing::Discard(place)),
         }
         left = next;
     }
@@ -54,9 +46,7 @@ pub fn run<C: Clock, S: Store, R: SummerRule>(
 ) -> Result<(), Stopped>
     ensures answer { result ≡ ran_answer (state_of S.cells engine.old) order.now }
     ensures after { state_of S.cells engine.new ≡ ran (state_of S.cells engine.old) order.now }
-    ensures same { OnlyCells (S.width) engine.old engine.new }
-    ensures memory { S.rest engine.new.store ≡ S.rest engine.old.store }
-    ensures home { S.home engine.new.store ≡ S.home engine.old.store }
+    ensures same { OnlyCells S.memory engine.old engine.new }
 {
     if let Some(place) = fault(order) {
         return Err(Stopped {
@@ -67,10 +57,7 @@ pub fn run<C: Clock, S: Store, R: SummerRule>(
     let Some((_, tail)) = next_command(order) else {
         unreachable()
     };
-    let t = match engine.open() {
-        Ok(t) => t,
-        Err(why) => return Err(Stopped { place: 0, why }),
-    };
+    let t = placed(0, engine.open())?;
     let ending = perform(engine, &t, order.len(), tail);
     finish(engine, t, ending)
 }
@@ -79,18 +66,16 @@ pub fn run<C: Clock, S: Store, R: SummerRule>(
 fn finish<C: Clock, S: Store, R: SummerRule>(
     engine: &mut Engine<C, S, R>,
     t: Ticket,
-    ending: Ending,
+    ending: Result<Closing, Stopped>,
 ) -> Result<(), Stopped>
     ensures answer { result ≡ finish_answer (state_of S.cells engine.old) ending }
     ensures after { state_of S.cells engine.new ≡ finish_state (state_of S.cells engine.old) ending }
-    ensures same { OnlyCells (S.width) engine.old engine.new }
-    ensures memory { S.rest engine.new.store ≡ S.rest engine.old.store }
-    ensures home { S.home engine.new.store ≡ S.home engine.old.store }
+    ensures same { OnlyCells S.memory engine.old engine.new }
 {
     match ending {
-        Ending::Commit(place) => placed(place, engine.commit(t)),
-        Ending::Discard(place) => placed(place, engine.discard(t)),
-        Ending::Refused(stopped) => {
+        Ok(Closing::Commit(place)) => placed(place, engine.commit(t)),
+        Ok(Closing::Discard(place)) => placed(place, engine.discard(t)),
+        Err(stopped) => {
             let _ = engine.discard(t);
             Err(stopped)
         }
@@ -98,11 +83,8 @@ fn finish<C: Clock, S: Store, R: SummerRule>(
 }
 
 // A refusal with the place of its command.
-fn placed(place: usize, r: Result<(), Refusal>) -> Result<(), Stopped>
-    ensures { result ≡ said r place (Ok tt) }
+fn placed<T>(place: usize, r: Result<T, Refusal>) -> Result<T, Stopped>
+    ensures { result ≡ placed place r }
 {
-    match r {
-        Ok(()) => Ok(()),
-        Err(why) => Err(Stopped { place, why }),
-    }
+    r.map_err(|why| Stopped { place, why })
 }

@@ -7,10 +7,9 @@ pub struct Stopped {
     pub why: Refusal,
 }
 
-// How the commands of an order end, but for the closing one, which spends the ticket.
+// The command that closes an order, with its place: it spends the ticket.
 #[derive(Clone, Copy)]
-pub enum Ending {
+pub enum Closing {
     Commit(usize),
     Discard(usize),
-    Refused(Stopped),
 }

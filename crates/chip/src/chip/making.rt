@@ -6,8 +6,7 @@ use crate::chip::CalendarChip;
 impl CalendarChip {
     // A chip without a time.
     pub fn new() -> CalendarChip
-        ensures time { chip.time result ≡ None }
-        ensures span { chip.span result ≡ 0 }
+        ensures answer { chip.meaning result ≡ (None, 0) }
     {
         CalendarChip { moment: None }
     }

@@ -1,9 +1,9 @@
 ghost use Rattle.std.specs.Prelude.{◌≡◌, ◌-◌, pos, if◌then◌else◌, Some, None};
 ghost use Rattle.calendar.specs.Dates.{IsDate};
-ghost use Rattle.chip.specs.Chip.{second_at, time_at};
+ghost use Rattle.chip.specs.Chip.{chip_kind, chip_meaning, second_at, time_at};
 ghost use Rattle.chip.specs.Moment.{Within, chip_first, chip_last, days_to};
 ghost use Rattle.clock.specs.Setting.{accepts};
-ghost use Rattle.clock.specs.Time.{passed, span_to};
+ghost use Rattle.clock.specs.Time.{passed};
 
 use crate::moment::{FIRST, LAST, Moment};
 use calendar::{date_of, day_of};
@@ -11,7 +11,7 @@ use calendar::{date_of, day_of};
 impl Moment {
     // The date and time at a second of 2000 to 2099.
     pub fn at(second: u32) -> Option<Moment>
-        ensures answer { time_at result ≡ (if accepts chip_first chip_last second then Some second else None) }
+        ensures answer { time_at result ≡ (if accepts chip_kind second then Some second else None) }
     {
         if second < FIRST || second > LAST {
             return None;
@@ -53,7 +53,7 @@ impl Moment {
 
     // The date and time n seconds later, or none past 2099.
     pub fn later(&self, n: u32) -> Option<Moment>
-        ensures answer { (time_at result, span_to chip_last (time_at result)) ≡ passed (Some (second_at self.now), chip_last - second_at self.now) n }
+        ensures answer { chip_meaning result ≡ passed (Some (second_at self.now), chip_last - second_at self.now) n }
     {
         Moment::at(self.second().checked_add(n)?)
     }

@@ -6,8 +6,7 @@ use crate::counter::CounterClock;
 impl CounterClock {
     // A clock without a time.
     pub fn new() -> CounterClock
-        ensures time { counter.time result ≡ None }
-        ensures span { counter.span result ≡ 0 }
+        ensures answer { counter.meaning result ≡ (None, 0) }
     {
         CounterClock { second: None }
     }

@@ -6,8 +6,7 @@ use crate::instant::InstantClock;
 impl InstantClock {
     // A clock that shows the second until any time passes.
     pub fn new(second: u32) -> InstantClock
-        ensures time { instant.time result ≡ Some second }
-        ensures span { instant.span result ≡ 0 }
+        ensures answer { instant.meaning result ≡ (Some second, 0) }
     {
         InstantClock {
             second: Some(second),

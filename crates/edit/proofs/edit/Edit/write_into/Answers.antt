@@ -17,13 +17,11 @@ loop-i-preserved g c =
     let lt : i < length t = omega (arith, c.args.self.now.few, c.args.self.now.whole) in
     let fits : e.value < 256 ^ width e.cell = c.args.self.now.fits i c.loop-i-test.true in
     let wide = pow-le-pow_right {n = 256} (lit< tt) (m.laws.wide c.loop-i.store e.cell) in
-    let within : e.value < 256 ^ m.width c.loop-i.store e.cell = omega arith in
-    let put = c.put.ensures.after ∙ put_fits (m.cells c.loop-i.store) (m.width c.loop-i.store) e.cell e.value within in
+    let within : e.value < 256 ^ (m.memory c.loop-i.store).width e.cell = omega arith in
+    let put = c.put.ensures.after ∙ put_fits (m.cells c.loop-i.store) (m.memory c.loop-i.store).width e.cell e.value within in
     let step = fold_more (λ (xs : List ℕ) (x : Entry). set xs x.cell x.value) cs t i (entry 0 0) lt in (
       put ∙ ap (λ (xs : List ℕ). set xs e.cell e.value) c.loop-i.invariant.0 ∙ sym step,
-      c.put.ensures.memory ∙ c.loop-i.invariant.1,
-      c.put.ensures.same ∙ c.loop-i.invariant.2,
-      c.put.ensures.home ∙ c.loop-i.invariant.3,
+      c.put.ensures.same ∙ c.loop-i.invariant.1,
     )
 
 pub returns : goal.returns
@@ -32,7 +30,5 @@ returns g c =
     let same : c.loop-i.i ≡ c.args.self.now.count = omega arith in
     record {
       after = c.loop-i.invariant.0 ∙ ap (λ (n : ℕ). overwritten (m.cells c.args.store.now) (take n c.args.self.now.table)) same;
-      memory = c.loop-i.invariant.1;
-      same = c.loop-i.invariant.2;
-      home = c.loop-i.invariant.3;
+      same = c.loop-i.invariant.1;
     }

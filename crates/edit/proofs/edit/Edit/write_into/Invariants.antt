@@ -6,6 +6,4 @@ abbrev pub invariant-loop-i : goal.invariant-loop-i
 invariant-loop-i g l =
     let m = g.S.Store in
     (m.cells l.store ≡ overwritten (m.cells l.initial.store) (take l.i l.self.table))
-    × (m.rest l.store ≡ m.rest l.initial.store)
-    × (m.width l.store ≡ m.width l.initial.store)
-    × (m.home l.store ≡ m.home l.initial.store)
+    × (m.memory l.store ≡ m.memory l.initial.store)
