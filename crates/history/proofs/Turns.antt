@@ -5,7 +5,8 @@ use Rattle.clock.specs.Time.{Meaning as Moment}
 use Rattle.history.specs.declared.calls.Call.{Call}
 use Rattle.history.specs.declared.calls.Call.TheVariants as call
 use Rattle.history.specs.declared.calls.Answer.{Answer}
-use Rattle.history.specs.Book.{Kind, kept, moves, moved, tick, answers}
+use Rattle.clock.specs.Setting.{Kind}
+use Rattle.history.specs.Book.{kept, moves, moved, tick, answers}
 use Rattle.history.specs.History.{Meaning, Lived, Turned}
 
 -- after some turns the engine means `at`, has answered `out`, and `left` is still to do
@@ -13,8 +14,7 @@ pub record Sofar (k : Kind) (start : Meaning) (calls : List Call) (at : Meaning)
   pub book : kept at.book left ≡ kept start.book calls
   pub time : moved k at.time (moves left) ≡ moved k start.time (moves calls)
   pub rule : at.rule ≡ start.rule
-  pub rest : at.rest ≡ start.rest
-  pub home : at.home ≡ start.home
+  pub memory : at.memory ≡ start.memory
   pub answers : out ++ answers k at.rule at.time at.book left ≡ answers k start.rule start.time start.book calls
 
 pub moved_cons : (k : Kind) (m : Moment) (c : Call) (cs : List Call) → moved k m (moves (c ∷ cs)) ≡ moved k (tick k m c) (moves cs)
@@ -36,13 +36,12 @@ module _ {k : Kind} {start : Meaning} {calls : List Call} where
     book = ap (λ s. kept s left) t.book ∙ h.book;
     time = ap (λ m. moved k m (moves left)) t.time ∙ sym (moved_cons k at.time c left) ∙ h.time;
     rule = t.rule ∙ h.rule;
-    rest = t.rest ∙ h.rest;
-    home = t.home ∙ h.home;
+    memory = t.memory ∙ h.memory;
     answers = append_assoc out (a ∷ []) _ ∙ ap (λ l. out ++ l) ((λ i. t.answer i ∷ answers k (t.rule i) (t.time i) (t.book i) left)) ∙ h.answers;
   }
 
   over : {at : Meaning} {out : List Answer} → Sofar k start calls at out [] → Lived k start calls at out
-  over {at} {out} h = record { book = h.book; time = h.time; rule = h.rule; rest = h.rest; home = h.home; answers = sym (append-nil out) ∙ h.answers }
+  over {at} {out} h = record { book = h.book; time = h.time; rule = h.rule; memory = h.memory; answers = sym (append-nil out) ∙ h.answers }
 
   -- one turn over the first n calls, where the answer goes into its place
   pub turn_in : {at next : Meaning} {a : Answer} (whole : List Call) (out : List Answer) (n i : ℕ) → calls ≡ take n whole → i < n → n ≤ length whole → i < length out → Sofar k start calls at (take i out) (drop i calls) → Turned k at (get_or whole i call.Look) next a → Sofar k start calls next (take (i + 1) (set out i a)) (drop (i + 1) calls)

@@ -2,7 +2,7 @@
 use Rattle.std.specs.Prelude.{ℕ, List, [], ◌∷◌, Ok, Err, Result}
 use Rattle.refusal.specs.declared.refusal.Refusal.{Refusal}
 use Rattle.clock.specs.Time.{Meaning as Moment, passed}
-use Rattle.clock.specs.Setting.{set_answer, adjusted}
+use Rattle.clock.specs.Setting.{Kind, set_answer, adjusted}
 use Rattle.store.specs.Cells.{get_answer}
 use Rattle.schedule.specs.Looks.{Rule}
 use Rattle.schedule.specs.declared.answer.Look.{Look}
@@ -16,19 +16,6 @@ use Rattle.history.specs.declared.calls.Call.{Call}
 use Rattle.history.specs.declared.calls.Call.TheVariants as call
 use Rattle.history.specs.declared.calls.Answer.{Answer}
 use Rattle.history.specs.declared.calls.Answer.TheVariants as says
-
--- what a kind of clock accepts, and its span for a second
-pub record Kind : Type 0 where
-  pub first : ℕ
-  pub last : ℕ
-  pub span_for : ℕ → ℕ
-
-abbrev pub kind_of : ℕ → ℕ → (ℕ → ℕ) → Kind
-kind_of first last span_for = record { first = first; last = last; span_for = span_for }
-
--- a clock that cannot be set accepts nothing
-abbrev pub no_kind : Kind
-no_kind = kind_of 1 0 (λ s. 0)
 
 -- answers in words of the history
 abbrev pub done : Result (Unit {0}) Refusal → Answer
@@ -50,7 +37,7 @@ came_to (Err s) = says.Stopped s
 -- what a call answers: a look by its definition, Set and Pass by the meaning of a clock, the others by the book's own state
 abbrev pub answer : Kind → Rule → Moment → State → Call → Answer
 answer k f m s call.Look = seen (look_answer f s.cells m.0)
-answer k f m s (call.Set t) = done (set_answer k.first k.last t)
+answer k f m s (call.Set t) = done (set_answer k t)
 answer k f m s (call.Pass n) = says.Done
 answer k f m s (call.Get c) = told (get_answer s.cells c)
 answer k f m s call.Open = done (engine.answer s command.Open)
@@ -99,7 +86,7 @@ moves (call.Run order ∷ cs) = moves cs
 abbrev pub moved : Kind → Moment → List Move → Moment
 moved k m [] = m
 moved k m (by n ∷ ms) = moved k (passed m n) ms
-moved k m (to t ∷ ms) = moved k (adjusted k.first k.last k.span_for m t) ms
+moved k m (to t ∷ ms) = moved k (adjusted k m t) ms
 
 abbrev pub tick : Kind → Moment → Call → Moment
 tick k m c = moved k m (moves (c ∷ []))

@@ -1,5 +1,5 @@
 ghost use Rattle.std.specs.Prelude.{◌≡◌, ℕ, min, length, take, drop};
-ghost use Rattle.history.specs.Book.{answer, came_to, done, kind_of, seen, step, tick, told};
+ghost use Rattle.history.specs.Book.{answer, came_to, done, seen, step, tick, told};
 ghost use Rattle.history.specs.History.{Lived, Turned, meaning};
 ghost use Rattle.engine.specs.Engines.{opened, state_of};
 
@@ -66,13 +66,12 @@ pub fn perform<C: SettableClock, S: Store, R: SummerRule>(
     engine: &mut Engine<C, S, R>,
     call: Call,
 ) -> Answer
-    ensures answer { result ≡ answer (kind_of C.SettableClock.first C.SettableClock.last C.SettableClock.span_for) (R.in_force engine.old.rule) (C.Clock.time engine.old.clock, C.Clock.span engine.old.clock) (state_of S.cells engine.old) call.entry }
-    ensures time { (C.Clock.time engine.new.clock, C.Clock.span engine.new.clock) ≡ tick (kind_of C.SettableClock.first C.SettableClock.last C.SettableClock.span_for) (C.Clock.time engine.old.clock, C.Clock.span engine.old.clock) call.entry }
+    ensures answer { result ≡ answer C.kind (R.in_force engine.old.rule) (C.meaning engine.old.clock) (state_of S.cells engine.old) call.entry }
+    ensures time { C.meaning engine.new.clock ≡ tick C.kind (C.meaning engine.old.clock) call.entry }
     ensures book { state_of S.cells engine.new ≡ step (state_of S.cells engine.old) call.entry }
     ensures rule { engine.new.rule ≡ engine.old.rule }
-    ensures memory { S.rest engine.new.store ≡ S.rest engine.old.store }
-    ensures home { S.home engine.new.store ≡ S.home engine.old.store }
-    ensures turned { Turned (kind_of C.SettableClock.first C.SettableClock.last C.SettableClock.span_for) (meaning C.Clock.time C.Clock.span S.cells S.rest S.home R.in_force engine.old) call.entry (meaning C.Clock.time C.Clock.span S.cells S.rest S.home R.in_force engine.new) result }
+    ensures memory { S.memory engine.new.store ≡ S.memory engine.old.store }
+    ensures turned { Turned C.kind (meaning C.meaning S.cells S.memory R.in_force engine.old) call.entry (meaning C.meaning S.cells S.memory R.in_force engine.new) result }
 {
     match call {
         Call::Look => seen(engine.look()),
@@ -104,7 +103,7 @@ pub fn live<C: SettableClock, S: Store, R: SummerRule>(
     answers: &mut [Answer],
 ) -> usize
     ensures answer { result ≡ min (length calls.now) (length answers.old) }
-    ensures lived { Lived (kind_of C.SettableClock.first C.SettableClock.last C.SettableClock.span_for) (meaning C.Clock.time C.Clock.span S.cells S.rest S.home R.in_force engine.old) (take result calls.now) (meaning C.Clock.time C.Clock.span S.cells S.rest S.home R.in_force engine.new) (take result answers.new) }
+    ensures lived { Lived C.kind (meaning C.meaning S.cells S.memory R.in_force engine.old) (take result calls.now) (meaning C.meaning S.cells S.memory R.in_force engine.new) (take result answers.new) }
     ensures same { drop result answers.new ≡ drop result answers.old }
 {
     let n = calls.len().min(answers.len());
