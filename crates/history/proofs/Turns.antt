@@ -1,5 +1,5 @@
 -- One turn of a history: what is left to do gives what the whole gives.
-use Rattle.std.proofs.Common.{◌≡◌, ℕ, ◌+◌, ◌<◌, ◌≤◌, List, [], ◌∷◌, ◌++◌, length, get_or, take, drop, set, sym, refl, ap, ◌∙◌, subst, append_assoc, append-nil, arith, length-take-le, get_or-take}
+use Rattle.std.proofs.Common.{◌≡◌, ℕ, ◌+◌, ◌<◌, List, [], ◌∷◌, ◌++◌, length, get_or, take, drop, set, sym, refl, ap, ◌∙◌, subst, append_assoc, append-nil, arith}
 use Rattle.std.proofs.lemmas.List.{drop_more, at_drop_all, take_more_set}
 use Rattle.clock.specs.Time.{Meaning as Moment}
 use Rattle.history.specs.declared.calls.Call.{Call}
@@ -43,18 +43,15 @@ module _ {k : Kind} {start : Meaning} {calls : List Call} where
   over : {at : Meaning} {out : List Answer} → Sofar k start calls at out [] → Lived k start calls at out
   over {at} {out} h = record { book = h.book; time = h.time; rule = h.rule; memory = h.memory; answers = sym (append-nil out) ∙ h.answers }
 
-  -- one turn over the first n calls, where the answer goes into its place
-  pub turn_in : {at next : Meaning} {a : Answer} (whole : List Call) (out : List Answer) (n i : ℕ) → calls ≡ take n whole → i < n → n ≤ length whole → i < length out → Sofar k start calls at (take i out) (drop i calls) → Turned k at (get_or whole i call.Look) next a → Sofar k start calls next (take (i + 1) (set out i a)) (drop (i + 1) calls)
-  turn_in {at} {next} {a} whole out n i same before within place h t =
-      let long : length calls ≡ n = ap length same ∙ length-take-le n whole within in
-      let here : i < length calls = omega arith in
-      let item : get_or calls i call.Look ≡ get_or whole i call.Look = ap (λ l. get_or l i call.Look) same ∙ get_or-take n whole i call.Look before in
-      let left : drop i calls ≡ get_or whole i call.Look ∷ drop (i + 1) calls = drop_more calls i call.Look here ∙ ap (λ c. c ∷ drop (i + 1) calls) item in
+  -- one turn, where the answer goes into its place
+  pub turn_in : {at next : Meaning} {a : Answer} (out : List Answer) (i : ℕ) → i < length calls → i < length out → Sofar k start calls at (take i out) (drop i calls) → Turned k at (get_or calls i call.Look) next a → Sofar k start calls next (take (i + 1) (set out i a)) (drop (i + 1) calls)
+  turn_in {at} {next} {a} out i here place h t =
+      let left : drop i calls ≡ get_or calls i call.Look ∷ drop (i + 1) calls = drop_more calls i call.Look here in
       subst (λ l. Sofar k start calls next l (drop (i + 1) calls)) (sym (take_more_set out i a place))
       (turn (subst (Sofar k start calls at (take i out)) left h) t)
 
-  pub over_in : {at : Meaning} (whole : List Call) (out : List Answer) (n i : ℕ) → calls ≡ take n whole → i ≡ n → n ≤ length whole → Sofar k start calls at (take i out) (drop i calls) → Lived k start calls at (take n out)
-  over_in {at} whole out n i same end within h =
-      let long : length calls ≡ n = ap length same ∙ length-take-le n whole within in
+  -- all of them
+  pub over_all : {at : Meaning} (out : List Answer) (n i : ℕ) → i ≡ n → length calls ≡ n → Sofar k start calls at (take i out) (drop i calls) → Lived k start calls at (take n out)
+  over_all {at} out n i end long h =
       let none : drop i calls ≡ [] = at_drop_all (λ l. l) calls i (omega arith) in
       over (subst (λ j. Sofar k start calls at (take j out) []) end (subst (Sofar k start calls at (take i out)) none h))

@@ -3,6 +3,7 @@
 
 mod calls;
 mod living;
+mod telling;
 mod ticket;
 
 pub use calls::{Answer, Call};

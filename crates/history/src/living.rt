@@ -1,5 +1,5 @@
 ghost use Rattle.std.specs.Prelude.{◌≡◌, ℕ, min, length, take, drop};
-ghost use Rattle.history.specs.Book.{answer, came_to, done, seen, step, tick, told};
+ghost use Rattle.history.specs.Book.{answer, step, tick};
 ghost use Rattle.history.specs.History.{Lived, Turned, meaning};
 ghost use Rattle.engine.specs.Engines.{opened, state_of};
 
@@ -8,57 +8,16 @@ use crate::ticket::{fresh_ticket, spend};
 use clock::SettableClock;
 use engine::{Engine, Ticket};
 use refusal::Refusal;
-use runner::{Stopped, run};
-use schedule::Look;
+use runner::run;
 use store::Store;
 use summer::SummerRule;
 
-fn done(r: Result<(), Refusal>) -> Answer
-    ensures { result ≡ done r }
+// An Open is told without its ticket, which is spent.
+fn ticket_aside(r: Result<Ticket, Refusal>) -> Result<(), Refusal>
+    ensures { result ≡ opened r }
 {
-    match r {
-        Ok(()) => Answer::Done,
-        Err(why) => Answer::Refused(why),
-    }
-}
-
-fn opened(r: Result<Ticket, Refusal>) -> Answer
-    ensures { result ≡ done (opened r) }
-{
-    match r {
-        Ok(ticket) => {
-            spend(ticket);
-            Answer::Done
-        }
-        Err(why) => Answer::Refused(why),
-    }
-}
-
-fn told(r: Result<u32, Refusal>) -> Answer
-    ensures { result ≡ told r }
-{
-    match r {
-        Ok(value) => Answer::Cell(value),
-        Err(why) => Answer::Refused(why),
-    }
-}
-
-fn seen(r: Result<Look, Refusal>) -> Answer
-    ensures { result ≡ seen r }
-{
-    match r {
-        Ok(look) => Answer::Seen(look),
-        Err(why) => Answer::Refused(why),
-    }
-}
-
-fn came_to(r: Result<(), Stopped>) -> Answer
-    ensures { result ≡ came_to r }
-{
-    match r {
-        Ok(()) => Answer::Done,
-        Err(stopped) => Answer::Stopped(stopped),
-    }
+    spend(r?);
+    Ok(())
 }
 
 // Makes one call on an engine, and answers what it answered.
@@ -74,25 +33,25 @@ pub fn perform<C: SettableClock, S: Store, R: SummerRule>(
     ensures turned { Turned C.kind (meaning C.meaning S.cells S.memory R.in_force engine.old) call.entry (meaning C.meaning S.cells S.memory R.in_force engine.new) result }
 {
     match call {
-        Call::Look => seen(engine.look()),
-        Call::Set(s) => done(engine.set(s)),
+        Call::Look => Answer::from(engine.look()),
+        Call::Set(s) => Answer::from(engine.set(s)),
         Call::Pass(n) => {
             engine.pass(n);
             Answer::Done
         }
-        Call::Get(c) => told(engine.get(c)),
-        Call::Open => opened(engine.open()),
+        Call::Get(c) => Answer::from(engine.get(c)),
+        Call::Open => Answer::from(ticket_aside(engine.open())),
         Call::Put(c, v) => {
             let ticket = fresh_ticket();
             let answer = engine.put(&ticket, c, v);
             spend(ticket);
-            done(answer)
+            Answer::from(answer)
         }
-        Call::Check => done(engine.check()),
-        Call::Commit => done(engine.commit(fresh_ticket())),
-        Call::Discard => done(engine.discard(fresh_ticket())),
-        Call::Clear => done(engine.clear()),
-        Call::Run(order) => came_to(run(engine, order)),
+        Call::Check => Answer::from(engine.check()),
+        Call::Commit => Answer::from(engine.commit(fresh_ticket())),
+        Call::Discard => Answer::from(engine.discard(fresh_ticket())),
+        Call::Clear => Answer::from(engine.clear()),
+        Call::Run(order) => Answer::from(run(engine, order)),
     }
 }
 
@@ -107,9 +66,9 @@ pub fn live<C: SettableClock, S: Store, R: SummerRule>(
     ensures same { drop result answers.new ≡ drop result answers.old }
 {
     let n = calls.len().min(answers.len());
-    for i in 0..n {
-        let answer = perform(engine, calls[i]);
-        answers[i] = answer;
+    let made = &calls[..n];
+    for (place, call) in made.iter().enumerate() {
+        answers[place] = perform(engine, *call);
     }
     n
 }

@@ -1,16 +1,25 @@
-use Rattle.std.proofs.Common.{refl, ◌∙◌, arith, drop-set-lt}
-use Rattle.history.proofs.Turns.{turn_in, over_in}
+use Rattle.std.proofs.Common.{◌≡◌, ◌<◌, length, take, ◌∙◌, arith, drop-set-lt, length-take-le}
+use Rattle.history.proofs.Turns.{turn_in, over_all}
 use Rattle.history.proofs.living.live.Goals as goal
 
-pub loop-i-preserved : goal.loop-i-preserved
-loop-i-preserved g c = (
-  turn_in c.args.calls.now c.loop-i.answers c.min-n.result c.loop-i.i refl (omega arith) (omega arith) (omega arith) c.loop-i.invariant.0 c.perform-answer.ensures.turned,
-  drop-set-lt c.min-n.result c.loop-i.answers c.loop-i.i _ (omega arith) ∙ c.loop-i.invariant.1,
-)
+pub loop-place-preserved : goal.loop-place-preserved
+loop-place-preserved g c =
+    let n = c.min-n.result in
+    let place = c.loop-place.place in
+    let long : length (take n c.args.calls.now) ≡ n = length-take-le n c.args.calls.now (omega arith) in
+    let made : place < n = omega arith in
+    record {
+      sofar = turn_in c.loop-place.answers place c.loop-place-test.true (omega arith) c.loop-place.invariant.sofar c.perform.ensures.turned;
+      same = drop-set-lt n c.loop-place.answers place _ made ∙ c.loop-place.invariant.same;
+    }
 
 pub returns : goal.returns
-returns g c = record {
-  answer = c.min-n.ensures;
-  lived = over_in c.args.calls.now c.loop-i.answers c.min-n.result c.loop-i.i refl (omega arith) (omega arith) c.loop-i.invariant.0;
-  same = c.loop-i.invariant.1;
-}
+returns g c =
+    let n = c.min-n.result in
+    let long : length (take n c.args.calls.now) ≡ n = length-take-le n c.args.calls.now (omega arith) in
+    let end : c.loop-place.place ≡ n = omega arith in
+    record {
+      answer = c.min-n.ensures;
+      lived = over_all c.loop-place.answers n c.loop-place.place end long c.loop-place.invariant.sofar;
+      same = c.loop-place.invariant.same;
+    }

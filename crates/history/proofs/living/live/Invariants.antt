@@ -3,8 +3,9 @@ use Rattle.history.specs.History.{meaning}
 use Rattle.history.proofs.Turns.{Sofar}
 use Rattle.history.proofs.living.live.Given as goal
 
-abbrev pub invariant-loop-i : goal.invariant-loop-i
-invariant-loop-i g l =
-    let mean = meaning g.C.Clock.meaning g.S.Store.cells g.S.Store.memory g.R.SummerRule.in_force in
-    Sofar g.C.SettableClock.kind (mean l.initial.engine) (take l.n l.calls) (mean l.engine) (take l.i l.answers) (drop l.i (take l.n l.calls))
-    × (drop l.n l.answers ≡ drop l.n l.initial.answers)
+abbrev pub invariant-loop-place : goal.invariant-loop-place
+invariant-loop-place g l =
+    let mean = meaning g.C.Clock.meaning g.S.Store.cells g.S.Store.memory g.R.SummerRule.in_force in record {
+      sofar : Sofar g.C.SettableClock.kind (mean l.initial.engine) l.made (mean l.engine) (take l.place l.answers) (drop l.place l.made);
+      same : drop l.n l.answers ≡ drop l.n l.initial.answers;
+    }
