@@ -5,7 +5,8 @@ use Rattle.clock.specs.Time.{Meaning as Moment}
 use Rattle.engine.specs.Book.{State}
 use Rattle.history.specs.declared.calls.Call.{Call}
 use Rattle.history.specs.declared.calls.Call.TheVariants as call
-use Rattle.history.specs.Book.{Kind, kept, moved, moves, step, tick}
+use Rattle.clock.specs.Setting.{Kind}
+use Rattle.history.specs.Book.{kept, moved, moves, step, tick}
 use Rattle.history.proofs.Turns.{moved_cons}
 
 module _ (calls : List Call) (i : ℕ) where

@@ -1,4 +1,4 @@
-ghost use Rattle.history.specs.Book.{kept, step};
+ghost use Rattle.history.specs.Book.{kept};
 ghost use Rattle.engine.specs.Book.{unedited};
 ghost use Rattle.engine.specs.Engines.{state_of};
 ghost use Rattle.store.specs.Words.{word_cells, word_rest};
@@ -30,21 +30,12 @@ fn kept_in<'a>(words: &'a mut [u32], calls: &[Call]) -> &'a mut [u32]
     store.into_words()
 }
 
+// Enters each call. What it answers is let go: a book is not fed answers.
 fn enter_each<C: SettableClock, S: Store, R: SummerRule>(book: &mut Engine<C, S, R>, calls: &[Call])
     ensures book { state_of S.cells book.new ≡ kept (state_of S.cells book.old) calls.now }
-    ensures memory { S.rest book.new.store ≡ S.rest book.old.store }
-    ensures home { S.home book.new.store ≡ S.home book.old.store }
+    ensures memory { S.memory book.new.store ≡ S.memory book.old.store }
 {
-    for i in 0..calls.len() {
-        enter(book, calls[i]);
+    for call in calls {
+        let _ = perform(book, *call);
     }
-}
-
-// Enters one call. What it answers is let go: a book is not fed answers.
-fn enter<C: SettableClock, S: Store, R: SummerRule>(book: &mut Engine<C, S, R>, call: Call)
-    ensures book { state_of S.cells book.new ≡ step (state_of S.cells book.old) call.entry }
-    ensures memory { S.rest book.new.store ≡ S.rest book.old.store }
-    ensures home { S.home book.new.store ≡ S.home book.old.store }
-{
-    let _ = perform(book, call);
 }

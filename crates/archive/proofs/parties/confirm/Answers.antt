@@ -1,5 +1,4 @@
 use Rattle.std.proofs.Common.{take, ap, ◌∙◌, subst}
-use Rattle.history.specs.Book.{kind_of}
 use Rattle.history.specs.History.{Meaning, Lived, meaning}
 use Rattle.archive.specs.Law.{defined}
 use Rattle.archive.proofs.Agree.{confirmed}
@@ -8,12 +7,12 @@ use Rattle.archive.proofs.parties.confirm.Goals as goal
 
 pub returns : goal.returns
 returns g c =
-    let kind = kind_of g.C.SettableClock.first g.C.SettableClock.last g.C.SettableClock.span_for in
-    let mean = meaning g.C.Clock.time g.C.Clock.span g.S.Store.cells g.S.Store.rest g.S.Store.home g.R.SummerRule.in_force in
+    let kind = g.C.SettableClock.kind in
+    let mean = meaning g.C.Clock.meaning g.S.Store.cells g.S.Store.memory g.R.SummerRule.in_force in
     let m = c.new-meter.ensures in
     let r = c.new-reader.ensures in
-    let start = made g.C.Clock.time g.C.Clock.span g.S.Store.cells g.S.Store.rest g.S.Store.home g.R.SummerRule.in_force c.new-meter.result m.clock m.store m.rule m.edit in
-    let reader = made g.D.Clock.time g.D.Clock.span g.T.Store.cells g.T.Store.rest g.T.Store.home g.Q.SummerRule.in_force c.new-reader.result r.clock r.store r.rule r.edit in
+    let start = made g.C.Clock.meaning g.S.Store.cells g.S.Store.memory g.R.SummerRule.in_force c.new-meter.result m.clock m.store m.rule m.edit in
+    let reader = made g.D.Clock.meaning g.T.Store.cells g.T.Store.memory g.Q.SummerRule.in_force c.new-reader.result r.clock r.store r.rule r.edit in
     let did = c.live-count.ensures in
     let n = c.live-count.result in
     record {

@@ -1,10 +1,9 @@
 use Rattle.std.proofs.Common.{◌≡◌, drop}
-use Rattle.history.specs.Book.{kind_of, moved, moves}
+use Rattle.history.specs.Book.{moved, moves}
 use Rattle.book.proofs.time.clock_after.Given as goal
 
 -- what is left to do gives the whole
-abbrev pub invariant-loop-i : goal.invariant-loop-i
-invariant-loop-i g l =
-    let kind = kind_of g.C.SettableClock.first g.C.SettableClock.last g.C.SettableClock.span_for in
-    moved kind (g.C.Clock.time l.after, g.C.Clock.span l.after) (moves (drop l.i l.calls))
-    ≡ moved kind (g.C.Clock.time l.initial.after, g.C.Clock.span l.initial.after) (moves l.calls)
+abbrev pub invariant-loop-call : goal.invariant-loop-call
+invariant-loop-call g l =
+    moved g.C.SettableClock.kind (g.C.Clock.meaning l.after) (moves (drop l.call-index l.calls))
+    ≡ moved g.C.SettableClock.kind (g.C.Clock.meaning l.initial.after) (moves l.calls)

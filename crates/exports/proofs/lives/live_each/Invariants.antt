@@ -1,5 +1,4 @@
 use Rattle.std.proofs.Common.{◌≡◌, take, drop}
-use Rattle.history.specs.Book.{kind_of}
 use Rattle.history.specs.History.{meaning}
 use Rattle.exports.specs.Lives.{calls_of}
 use Rattle.exports.proofs.Lifetimes.{Sofar}
@@ -7,7 +6,7 @@ use Rattle.exports.proofs.lives.live_each.Given as goal
 
 abbrev pub invariant-loop-i : goal.invariant-loop-i
 invariant-loop-i g l =
-    let mean = meaning g.C.Clock.time g.C.Clock.span g.S.Store.cells g.S.Store.rest g.S.Store.home g.R.SummerRule.in_force in
+    let mean = meaning g.C.Clock.meaning g.S.Store.cells g.S.Store.memory g.R.SummerRule.in_force in
     let calls = calls_of l.orders (take l.n l.steps) in
-    Sofar (kind_of g.C.SettableClock.first g.C.SettableClock.last g.C.SettableClock.span_for) (mean l.initial.engine) calls (mean l.engine) (take l.i l.answers) (drop l.i calls)
+    Sofar g.C.SettableClock.kind (mean l.initial.engine) calls (mean l.engine) (take l.i l.answers) (drop l.i calls)
     × (drop l.n l.answers ≡ drop l.n l.initial.answers)
