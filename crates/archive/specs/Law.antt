@@ -1,13 +1,13 @@
 -- The law of two parties: a meter over any history of it, and a reader, of any clocks, stores and rules. Assumes nothing.
 use Rattle.std.specs.Prelude.{◌≡◌, ℕ, ◌-◌, ◌≤◌, List, Some, Ok, Result}
 use Rattle.refusal.specs.declared.refusal.Refusal.{Refusal}
+use Rattle.clock.specs.Setting.{Kind}
 use Rattle.clock.specs.Time.{Sound}
 use Rattle.schedule.specs.Looks.{SameRule, onward}
 use Rattle.schedule.specs.declared.answer.Look.{Look}
 use Rattle.engine.specs.Looks.{look_answer}
 use Rattle.history.specs.declared.calls.Call.{Call}
 use Rattle.history.specs.declared.calls.Answer.{Answer}
-use Rattle.history.specs.Book.{Kind}
 use Rattle.archive.specs.Commits.{OverwrittenBy, commits}
 use Rattle.history.specs.History.{Meaning, Lived}
 
@@ -28,7 +28,7 @@ pub record Confirmed (kind : Kind) (start : Meaning) (calls : List Call) (meter 
   -- the cells are those of the making, overwritten by the committed edits alone, in the sequence of their commits
   pub committed : OverwrittenBy (commits start.book calls) start.book.cells meter.book.cells
   -- the clock vouches for nothing past the last second
-  pub sound : Sound meter.time.0 meter.time.1
+  pub sound : Sound meter.time
   -- either look is the defined one
   pub meter_sees : shown ≡ defined meter
   pub reader_sees : read ≡ defined reader

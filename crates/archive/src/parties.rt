@@ -1,8 +1,8 @@
-ghost use Rattle.std.specs.Prelude.{◌≡◌, ℕ, min, length, take, drop};
-ghost use Rattle.history.specs.Book.{kind_of, no_kind};
+ghost use Rattle.std.specs.Prelude.{◌≡◌, min, length, take, drop};
+ghost use Rattle.clock.specs.Setting.{no_kind};
 ghost use Rattle.history.specs.History.{meaning, newly};
 ghost use Rattle.archive.specs.Law.{Confirmed};
-ghost use Rattle.layers.specs.Unset.{unset_span, unset_time};
+ghost use Rattle.layers.specs.Unset.{unset_meaning};
 
 use clock::{Clock, SettableClock};
 use engine::Engine;
@@ -35,8 +35,8 @@ pub fn confirm<C: SettableClock, S: Store, R: SummerRule, D: Clock, T: Store, Q:
     reader_rule: Q,
 ) -> Confirmation<C, S, R, D, T, Q>
     ensures answer { result.count ≡ min (length calls.now) (length answers.old) }
-    ensures law { Confirmed (kind_of C.SettableClock.first C.SettableClock.last C.SettableClock.span_for) (newly (C.Clock.time clock, C.Clock.span clock) (S.Store.cells store) (S.Store.rest store) (S.Store.home store) (R.SummerRule.in_force rule)) (take result.count calls.now) (meaning C.Clock.time C.Clock.span S.Store.cells S.Store.rest S.Store.home R.SummerRule.in_force result.meter) (newly (D.Clock.time reader_clock, D.Clock.span reader_clock) (T.Store.cells reader_store) (T.Store.rest reader_store) (T.Store.home reader_store) (Q.SummerRule.in_force reader_rule)) (take result.count answers.new) result.shown result.read }
-    ensures reader { meaning D.Clock.time D.Clock.span T.Store.cells T.Store.rest T.Store.home Q.SummerRule.in_force result.reader ≡ newly (D.Clock.time reader_clock, D.Clock.span reader_clock) (T.Store.cells reader_store) (T.Store.rest reader_store) (T.Store.home reader_store) (Q.SummerRule.in_force reader_rule) }
+    ensures law { Confirmed C.kind (newly (C.meaning clock) (S.cells store) (S.memory store) (R.in_force rule)) (take result.count calls.now) (meaning C.meaning S.cells S.memory R.in_force result.meter) (newly (D.meaning reader_clock) (T.cells reader_store) (T.memory reader_store) (Q.in_force reader_rule)) (take result.count answers.new) result.shown result.read }
+    ensures reader { meaning D.meaning T.cells T.memory Q.in_force result.reader ≡ newly (D.meaning reader_clock) (T.cells reader_store) (T.memory reader_store) (Q.in_force reader_rule) }
     ensures same { drop result.count answers.new ≡ drop result.count answers.old }
 {
     let mut meter = Engine::new(clock, store, rule);
@@ -65,8 +65,8 @@ pub fn confirm_unset<C: Clock, S: Store, R: SummerRule, D: Clock, T: Store, Q: S
     reader_rule: Q,
 ) -> Confirmation<Unset<C>, S, R, D, T, Q>
     ensures answer { result.count ≡ min (length calls.now) (length answers.old) }
-    ensures law { Confirmed no_kind (newly (C.Clock.time clock, C.Clock.span clock) (S.Store.cells store) (S.Store.rest store) (S.Store.home store) (R.SummerRule.in_force rule)) (take result.count calls.now) (meaning (unset_time C.Clock.time) (unset_span C.Clock.span) S.Store.cells S.Store.rest S.Store.home R.SummerRule.in_force result.meter) (newly (D.Clock.time reader_clock, D.Clock.span reader_clock) (T.Store.cells reader_store) (T.Store.rest reader_store) (T.Store.home reader_store) (Q.SummerRule.in_force reader_rule)) (take result.count answers.new) result.shown result.read }
-    ensures reader { meaning D.Clock.time D.Clock.span T.Store.cells T.Store.rest T.Store.home Q.SummerRule.in_force result.reader ≡ newly (D.Clock.time reader_clock, D.Clock.span reader_clock) (T.Store.cells reader_store) (T.Store.rest reader_store) (T.Store.home reader_store) (Q.SummerRule.in_force reader_rule) }
+    ensures law { Confirmed no_kind (newly (C.meaning clock) (S.cells store) (S.memory store) (R.in_force rule)) (take result.count calls.now) (meaning (unset_meaning C.meaning) S.cells S.memory R.in_force result.meter) (newly (D.meaning reader_clock) (T.cells reader_store) (T.memory reader_store) (Q.in_force reader_rule)) (take result.count answers.new) result.shown result.read }
+    ensures reader { meaning D.meaning T.cells T.memory Q.in_force result.reader ≡ newly (D.meaning reader_clock) (T.cells reader_store) (T.memory reader_store) (Q.in_force reader_rule) }
     ensures same { drop result.count answers.new ≡ drop result.count answers.old }
 {
     confirm(
