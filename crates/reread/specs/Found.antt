@@ -1,8 +1,9 @@
 -- What a life leaves, and what is found of it. Assumes nothing.
-use Rattle.std.specs.Prelude.{◌≡◌, ℕ, ◌-◌, min, List, None, Option, Result}
+use Rattle.std.specs.Prelude.{◌≡◌, ℕ, List, None, Option, Result}
 use Rattle.refusal.specs.declared.refusal.Refusal.{Refusal}
-use Rattle.clock.specs.Time.{Meaning as Moment, final_second}
-use Rattle.layers.specs.Vouching.{vouched_seconds}
+use Rattle.clock.specs.Setting.{Kind, counter_kind}
+use Rattle.clock.specs.Time.{Meaning as Moment}
+use Rattle.layers.specs.Vouching.{vouched_kind}
 use Rattle.image.specs.Image.{image_cells}
 use Rattle.summer.specs.Laws.{europe}
 use Rattle.schedule.specs.declared.answer.Look.{Look}
@@ -10,11 +11,11 @@ use Rattle.engine.specs.Book.{unedited}
 use Rattle.engine.specs.Looks.{look_answer}
 use Rattle.history.specs.declared.calls.Call.{Call}
 use Rattle.history.specs.declared.calls.Answer.{Answer}
-use Rattle.history.specs.Book.{Kind, answers, kept, kind_of, moved, moves}
+use Rattle.history.specs.Book.{answers, kept, moved, moves}
 
 -- the meter's clock: a counter under the vouching layer
 abbrev pub meter_kind : Kind
-meter_kind = kind_of 0 final_second (λ s. min (final_second - s) vouched_seconds)
+meter_kind = vouched_kind counter_kind
 
 -- it is made without a time
 abbrev pub unset : Moment
