@@ -1,11 +1,12 @@
 -- A life of steps: one turn of it, and its end.
-use Rattle.std.proofs.Common.{◌≡◌, ℕ, ◌+◌, ◌<◌, ◌≤◌, List, [], ◌∷◌, ◌++◌, map, length, get_or, take, drop, set, sym, ap, ◌∙◌, subst, append_assoc, append-nil, arith, length-take-le, get_or-take}
+use Rattle.std.proofs.Common.{◌≡◌, ℕ, ◌+◌, ◌<◌, List, [], ◌∷◌, ◌++◌, map, length, get_or, take, drop, set, sym, ap, ◌∙◌, subst, append_assoc, append-nil, arith}
 use lib.ListN.{length-map}
 use Rattle.std.proofs.lemmas.List.{drop_more, drop_all, get_or-map, take_more_set}
 use Rattle.history.specs.declared.calls.Call.{Call}
 use Rattle.history.specs.declared.calls.Call.TheVariants.{Look, Set, Pass, Get, Open, Put, Check, Commit, Discard, Clear, Run}
 use Rattle.history.specs.declared.calls.Answer.{Answer}
-use Rattle.history.specs.Book.{Kind, answers, kept}
+use Rattle.clock.specs.Setting.{Kind}
+use Rattle.history.specs.Book.{answers, kept}
 use Rattle.history.specs.History.{Meaning, Turned}
 use Rattle.exports.specs.declared.fields.Step.{Step}
 use Rattle.exports.specs.declared.fields.Told.{Told}
@@ -15,15 +16,14 @@ use Rattle.exports.specs.Lives.{Acted, Same, call_of, calls_of, told_of}
 pub record Sofar (k : Kind) (start : Meaning) (calls : List Call) (at : Meaning) (out : List Told) (left : List Call) : Type 0 where
   pub book : kept at.book left ≡ kept start.book calls
   pub rule : at.rule ≡ start.rule
-  pub rest : at.rest ≡ start.rest
-  pub home : at.home ≡ start.home
+  pub memory : at.memory ≡ start.memory
   pub told : out ++ map told_of (answers k at.rule at.time at.book left) ≡ map told_of (answers k start.rule start.time start.book calls)
 
 module _ {k : Kind} {at next : Meaning} {a : Answer} where
   -- where a Run's order lies plays no part
   anywhere : (c : Call) (d : Call) → Same c d → Turned k at c next a → Turned k at d next a
   anywhere (Run order) d e t =
-      subst (λ (x : Call). Turned k at x next a) (sym e) (record { book = t.book; time = t.time; rule = t.rule; rest = t.rest; home = t.home; answer = t.answer })
+      subst (λ (x : Call). Turned k at x next a) (sym e) (record { book = t.book; time = t.time; rule = t.rule; memory = t.memory; answer = t.answer })
   anywhere Look d e t = subst (λ (x : Call). Turned k at x next a) (sym e) t
   anywhere (Set s) d e t = subst (λ (x : Call). Turned k at x next a) (sym e) t
   anywhere (Pass n) d e t = subst (λ (x : Call). Turned k at x next a) (sym e) t
@@ -40,27 +40,23 @@ module _ {k : Kind} {start : Meaning} {calls : List Call} where
   turn {at} {next} {out} {c} {left} {a} h t = record {
     book = ap (λ s. kept s left) t.book ∙ h.book;
     rule = t.rule ∙ h.rule;
-    rest = t.rest ∙ h.rest;
-    home = t.home ∙ h.home;
+    memory = t.memory ∙ h.memory;
     told = append_assoc out (told_of a ∷ []) _ ∙ ap (λ l. out ++ l) ((λ i. told_of (t.answer i) ∷ map told_of (answers k (t.rule i) (t.time i) (t.book i) left))) ∙ h.told;
   }
 
-  -- one turn over the first n steps, where what is told goes into its place
-  pub turn_in : {at next : Meaning} {a : Answer} {c : Call} (y : Told) (orders : List ℕ) (steps : List Step) (d : Step) (out : List Told) (n i : ℕ) → calls ≡ calls_of orders (take n steps) → i < n → n ≤ length steps → i < length out
+  -- one turn, where what is told goes into its place
+  pub turn_in : {at next : Meaning} {a : Answer} {c : Call} (y : Told) (orders : List ℕ) (steps : List Step) (d : Step) (out : List Told) (i : ℕ) → calls ≡ calls_of orders steps → i < length steps → i < length out
       → Sofar k start calls at (take i out) (drop i calls) → Same c (call_of orders (get_or steps i d)) → Turned k at c next a → y ≡ told_of a → Sofar k start calls next (take (i + 1) (set out i y)) (drop (i + 1) calls)
-  turn_in {at} {next} {a} {c} y orders steps d out n i same before within place h alike t e =
-      let long : length calls ≡ n = ap length same ∙ length-map (take n steps) (call_of orders) ∙ length-take-le n steps within in
-      let short = length-take-le n steps within in
-      let item : get_or calls i Look ≡ call_of orders (get_or steps i d) =
-      ap (λ l. get_or l i Look) same ∙ get_or-map (call_of orders) (take n steps) i d Look (omega arith)
-      ∙ ap (call_of orders) (get_or-take n steps i d before) in
+  turn_in {at} {next} {a} {c} y orders steps d out i same here place h alike t e =
+      let long : length calls ≡ length steps = ap length same ∙ length-map steps (call_of orders) in
+      let item : get_or calls i Look ≡ call_of orders (get_or steps i d) = ap (λ l. get_or l i Look) same ∙ get_or-map (call_of orders) steps i d Look here in
       let left : drop i calls ≡ call_of orders (get_or steps i d) ∷ drop (i + 1) calls = drop_more calls i Look (omega arith) ∙ ap (λ x. x ∷ drop (i + 1) calls) item in
       subst (λ l. Sofar k start calls next l (drop (i + 1) calls)) (ap (λ x. take i out ++ x ∷ []) (sym e) ∙ sym (take_more_set out i y place))
       (turn (subst (Sofar k start calls at (take i out)) left h) (anywhere c (call_of orders (get_or steps i d)) alike t))
 
-  pub over_in : {at : Meaning} (orders : List ℕ) (steps : List Step) (out : List Told) (n i : ℕ) → calls ≡ calls_of orders (take n steps) → i ≡ n → n ≤ length steps → Sofar k start calls at (take i out) (drop i calls) → Acted k start calls at (take n out)
-  over_in {at} orders steps out n i same end within h =
-      let long : length calls ≡ n = ap length same ∙ length-map (take n steps) (call_of orders) ∙ length-take-le n steps within in
+  pub over_all : {at : Meaning} (orders : List ℕ) (steps : List Step) (out : List Told) (n i : ℕ) → calls ≡ calls_of orders steps → i ≡ n → length steps ≡ n → Sofar k start calls at (take i out) (drop i calls) → Acted k start calls at (take n out)
+  over_all {at} orders steps out n i same end all h =
+      let long : length calls ≡ length steps = ap length same ∙ length-map steps (call_of orders) in
       let none : drop i calls ≡ [] = drop_all i calls (omega arith) in
       let s : Sofar k start calls at (take n out) [] = subst (λ j. Sofar k start calls at (take j out) []) end (subst (Sofar k start calls at (take i out)) none h) in
-      record { book = s.book; rest = s.rest; home = s.home; told = sym (append-nil (take n out)) ∙ s.told }
+      record { book = s.book; memory = s.memory; told = sym (append-nil (take n out)) ∙ s.told }

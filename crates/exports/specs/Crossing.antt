@@ -8,6 +8,8 @@ use Rattle.refusal.specs.Refusals.{number_of}
 use Rattle.schedule.specs.Looks.{Rule}
 use Rattle.schedule.specs.declared.answer.Look.{Look}
 use Rattle.summer.specs.Laws.{america, europe}
+use Rattle.exports.specs.declared.law.Law.{Law}
+use Rattle.exports.specs.declared.law.Law.TheVariants as law
 use Rattle.exports.specs.declared.fields.Fields.{Fields}
 use Rattle.exports.specs.declared.fields.Outcome.{Outcome}
 
@@ -18,6 +20,12 @@ never o s = false
 -- the rules by number: 1 is Europe's, 2 is America's, every other is none
 abbrev pub rule_at : ℕ → Rule
 rule_at k = cond (k == 1) europe (cond (k == 2) america never)
+
+-- a law that was chosen
+abbrev pub in_force_by : Law → Rule
+in_force_by law.Europe = europe
+in_force_by law.America = america
+in_force_by law.NoSummer = never
 
 -- a second, or -1 for none
 abbrev pub second_or : Option ℕ → ℤ

@@ -1,11 +1,11 @@
 -- A life of calls by their numbers, and what is told of it. Assumes nothing.
-use Rattle.std.specs.Prelude.{◌≡◌, ℕ, ◌-◌, min, cond, ◌&&◌, List, [], ◌++◌, map, length, take, drop, pos, None, Err, ◌==◌, nat_le}
+use Rattle.std.specs.Prelude.{◌≡◌, ℕ, ◌-◌, cond, ◌&&◌, List, [], ◌++◌, map, length, take, drop, pos, None, Err, ◌==◌, nat_le}
 use Rattle.std.specs.Borrow.{Bor}
 use Rattle.refusal.specs.declared.refusal.Refusal.{Refusal}
 use Rattle.refusal.specs.Refusals.{number_of}
-use Rattle.clock.specs.Time.{final_second}
-use Rattle.layers.specs.Vouching.{vouched_seconds}
-use Rattle.chip.specs.Moment.{chip_first, chip_last}
+use Rattle.clock.specs.Setting.{Kind, counter_kind}
+use Rattle.layers.specs.Vouching.{vouched_kind}
+use Rattle.chip.specs.Chip.{chip_kind}
 use Rattle.image.specs.Image.{image_cells, image_of, image_rest}
 use Rattle.summer.specs.Laws.{europe}
 use Rattle.engine.specs.Book.{unedited}
@@ -13,7 +13,7 @@ use Rattle.history.specs.declared.calls.Call.{Call}
 use Rattle.history.specs.declared.calls.Call.TheVariants.{Look, Set, Pass, Get, Open, Put, Check, Commit, Discard, Clear, Run}
 use Rattle.history.specs.declared.calls.Answer.{Answer}
 use Rattle.history.specs.declared.calls.Answer.TheVariants as says
-use Rattle.history.specs.Book.{Kind, answers, kept, kind_of}
+use Rattle.history.specs.Book.{answers, kept}
 use Rattle.history.specs.History.{Meaning}
 use Rattle.exports.specs.Crossing.{cell_of, fields_of, outcome_of, rule_of}
 use Rattle.exports.specs.declared.fields.Fields.{Fields}
@@ -77,17 +77,8 @@ told_of (says.Refused why) = record { outcome = refused_by why; value = 0; look 
 told_of (says.Stopped s) = record { outcome = outcome_of (Err s); value = 0; look = no_fields }
 
 -- the kinds of clock by number: 1 is a chip, 2 a layer over a chip, 3 a layer over a counter, every other a counter
-abbrev pub chip_kind : Kind
-chip_kind = kind_of chip_first chip_last (λ s. chip_last - s)
-
-abbrev pub counter_kind : Kind
-counter_kind = kind_of 0 final_second (λ s. final_second - s)
-
-abbrev pub layered : Kind → Kind
-layered k = kind_of k.first k.last (λ s. min (k.span_for s) vouched_seconds)
-
 abbrev pub kind_at : ℕ → Kind
-kind_at n = cond (n == 1) chip_kind (cond (n == 2) (layered chip_kind) (cond (n == 3) (layered counter_kind) counter_kind))
+kind_at n = cond (n == 1) chip_kind (cond (n == 2) (vouched_kind chip_kind) (cond (n == 3) (vouched_kind counter_kind) counter_kind))
 
 -- the calls of a life
 abbrev pub calls_of : List ℕ → List Step → List Call
@@ -96,8 +87,7 @@ calls_of orders steps = map (call_of orders) steps
 -- what a life does to an engine, and what it tells
 pub record Acted (kind : Kind) (before : Meaning) (calls : List Call) (after : Meaning) (out : List Told) : Type 0 where
   pub book : after.book ≡ kept before.book calls
-  pub rest : after.rest ≡ before.rest
-  pub home : after.home ≡ before.home
+  pub memory : after.memory ≡ before.memory
   pub told : out ≡ map told_of (answers kind before.rule before.time before.book calls)
 
 -- a life on an image by a clock of a kind that is made without a time: what is told of each call, and the image after

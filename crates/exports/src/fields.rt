@@ -10,7 +10,7 @@ pub struct Date {
 
 // The eight fields of a look.
 #[repr(C)]
-#[derive(Clone, Copy)]
+#[derive(Clone, Copy, Default)]
 pub struct Fields {
     pub local_time: i64,
     pub last_second: u32,
@@ -24,7 +24,7 @@ pub struct Fields {
 
 // How an order ended: a refusal's number with its place, and with 8 its rule and cell; or all 0.
 #[repr(C)]
-#[derive(Clone, Copy)]
+#[derive(Clone, Copy, Default)]
 pub struct Outcome {
     pub place: usize,
     pub cell: u32,
@@ -41,9 +41,9 @@ pub struct Step {
     pub second: u32,
 }
 
-// What a call answered: how it ended, and the cell or the look that it told.
+// What a call answered: how it ended, and the cell or the look that it told, or all 0.
 #[repr(C)]
-#[derive(Clone, Copy)]
+#[derive(Clone, Copy, Default)]
 pub struct Told {
     pub outcome: Outcome,
     pub value: u32,

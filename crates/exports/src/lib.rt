@@ -1,8 +1,10 @@
 // What a program in another language may call: rules, dates, looks, work orders and whole lives, on numbers and slices.
 #![tactic(auto)]
 
+mod crossing;
 mod dates;
 mod fields;
+mod law;
 mod lives;
 mod looks;
 mod rules;

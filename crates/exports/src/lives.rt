@@ -1,19 +1,14 @@
 ghost use Rattle.std.specs.Prelude.{◌≡◌, min, length, take, drop, None};
-ghost use Rattle.history.specs.Book.{kind_of};
 ghost use Rattle.history.specs.History.{meaning};
-ghost use Rattle.exports.specs.Lives.{Acted, call_of, calls_of, kind_at, LifeOn, part_of, refused_by, Same, told_of};
-ghost use Rattle.history.specs.declared.calls.Answer.TheVariants.{Done};
+ghost use Rattle.exports.specs.Lives.{Acted, call_of, calls_of, kind_at, LifeOn, part_of, Same};
 
-use crate::fields::{Fields, Outcome, Step, Told};
-use crate::looks::fields_of;
-use crate::work_orders::{cell_of, outcome_of, rule_of};
+use crate::fields::{Step, Told};
 use chip::CalendarChip;
 use clock::{CounterClock, SettableClock};
 use engine::Engine;
-use history::{Answer, Call, perform};
+use history::{Call, perform};
 use image::ImageStore;
 use layers::Vouching;
-use refusal::Refusal;
 use store::Store;
 use summer::{Europe, SummerRule};
 
@@ -39,68 +34,7 @@ fn call_of<'a>(step: Step, orders: &'a [u8]) -> Call<'a>
 fn part<'a>(orders: &'a [u8], from: usize, to: usize) -> &'a [u8]
     ensures { result.now ≡ part_of orders.now from to }
 {
-    if from <= to && to <= orders.len() {
-        &orders[from..to]
-    } else {
-        &orders[0..0]
-    }
-}
-
-// Nothing told.
-fn done() -> Told
-    ensures { result ≡ told_of Done }
-{
-    Told {
-        outcome: Outcome {
-            place: 0,
-            cell: 0,
-            refusal: 0,
-            rule: 0,
-        },
-        value: 0,
-        look: Fields {
-            local_time: 0,
-            last_second: 0,
-            row: 0,
-            plan: 0,
-            event_plan: 0,
-            event: 0,
-            days_back: 0,
-            tariff: 0,
-        },
-    }
-}
-
-fn refused(why: Refusal) -> Outcome
-    ensures { result ≡ refused_by why }
-{
-    Outcome {
-        place: 0,
-        cell: cell_of(why),
-        refusal: why.number(),
-        rule: rule_of(why),
-    }
-}
-
-fn told(answer: Answer) -> Told
-    ensures { result ≡ told_of answer }
-{
-    match answer {
-        Answer::Done => done(),
-        Answer::Cell(value) => Told { value, ..done() },
-        Answer::Seen(look) => Told {
-            look: fields_of(look),
-            ..done()
-        },
-        Answer::Refused(why) => Told {
-            outcome: refused(why),
-            ..done()
-        },
-        Answer::Stopped(stopped) => Told {
-            outcome: outcome_of(Err(stopped)),
-            ..done()
-        },
-    }
+    orders.get(from..to).unwrap_or(&[])
 }
 
 // The calls in turn, as far as there are places for what is told of them.
@@ -111,13 +45,13 @@ fn live_each<C: SettableClock, S: Store, R: SummerRule>(
     answers: &mut [Told],
 ) -> usize
     ensures answer { result ≡ min (length steps.now) (length answers.old) }
-    ensures acted { Acted (kind_of C.SettableClock.first C.SettableClock.last C.SettableClock.span_for) (meaning C.Clock.time C.Clock.span S.cells S.rest S.home R.in_force engine.old) (calls_of orders.now (take result steps.now)) (meaning C.Clock.time C.Clock.span S.cells S.rest S.home R.in_force engine.new) (take result answers.new) }
+    ensures acted { Acted C.kind (meaning C.meaning S.cells S.memory R.in_force engine.old) (calls_of orders.now (take result steps.now)) (meaning C.meaning S.cells S.memory R.in_force engine.new) (take result answers.new) }
     ensures same { drop result answers.new ≡ drop result answers.old }
 {
     let n = steps.len().min(answers.len());
-    for i in 0..n {
-        let answer = perform(engine, call_of(steps[i], orders));
-        answers[i] = told(answer);
+    let made = &steps[..n];
+    for (place, step) in made.iter().enumerate() {
+        answers[place] = Told::from(perform(engine, call_of(*step, orders)));
     }
     n
 }
@@ -131,7 +65,7 @@ fn lived<'a, C: SettableClock + Drop>(
     answers: &mut [Told],
 ) -> (usize, &'a mut [u8])
     ensures answer { result.0 ≡ min (length steps.now) (length answers.old) }
-    ensures life { C.Clock.time clock ≡ None → C.Clock.span clock ≡ 0 → LifeOn (kind_of C.SettableClock.first C.SettableClock.last C.SettableClock.span_for) image.old (calls_of orders.now (take result.0 steps.now)) (take result.0 answers.new) result.1.now }
+    ensures life { C.meaning clock ≡ (None, 0) → LifeOn C.kind image.old (calls_of orders.now (take result.0 steps.now)) (take result.0 answers.new) result.1.now }
     ensures same { drop result.0 answers.new ≡ drop result.0 answers.old }
     ensures home { result.1.ghost_name ≡ image.entry.ghost_name }
 {
@@ -149,7 +83,7 @@ fn lived_on<C: SettableClock + Drop>(
     answers: &mut [Told],
 ) -> usize
     ensures answer { result ≡ min (length steps.now) (length answers.old) }
-    ensures life { C.Clock.time clock ≡ None → C.Clock.span clock ≡ 0 → LifeOn (kind_of C.SettableClock.first C.SettableClock.last C.SettableClock.span_for) image.old (calls_of orders.now (take result steps.now)) (take result answers.new) image.new }
+    ensures life { C.meaning clock ≡ (None, 0) → LifeOn C.kind image.old (calls_of orders.now (take result steps.now)) (take result answers.new) image.new }
     ensures same { drop result answers.new ≡ drop result answers.old }
 {
     let (n, _image) = lived(clock, image, steps, orders, answers);

@@ -6,10 +6,10 @@ ghost use Rattle.schedule.specs.Looks.{look_at, look_of};
 ghost use Rattle.image.specs.Image.{image_cells};
 
 use crate::fields::Fields;
+use crate::law::Law;
 use engine::tables_of;
 use image::ImageStore;
-use schedule::{Look, look};
-use summer::{America, Europe, NoSummer};
+use schedule::look;
 use tables::Tables;
 
 // The tables of an image, and its memory back, as it was.
@@ -22,31 +22,11 @@ fn opened<'a>(image: &'a mut [u8]) -> (Tables, &'a mut [u8])
     (tables_of(&store), store.into_bytes())
 }
 
-pub(crate) fn fields_of(look: Look) -> Fields
-    ensures { result ≡ fields_of look }
-{
-    Fields {
-        local_time: look.local_time,
-        last_second: look.last_second,
-        row: look.row,
-        plan: look.plan,
-        event_plan: look.event_plan,
-        event: look.event,
-        days_back: look.days_back,
-        tariff: look.tariff,
-    }
-}
-
-// The look under the rule of a number: 1 is Europe's, 2 is America's, every other is none.
+// The look under the law of a number: 1 is Europe's, 2 is America's, every other is none.
 fn seen(tables: &Tables, rule: u8, second: u32) -> Fields
     ensures { result ≡ fields_of (look_of (timetable_in tables.now) (rule_at rule) second) }
 {
-    let look = match rule {
-        1 => look(tables, &Europe, second),
-        2 => look(tables, &America, second),
-        _ => look(tables, &NoSummer, second),
-    };
-    fields_of(look)
+    Fields::from(look(tables, &Law::from(rule), second))
 }
 
 // The look at a second of an image, whole or cut short.
@@ -66,8 +46,9 @@ fn seen_each(tables: &Tables, rule: u8, seconds: &[u32], looks: &mut [Fields]) -
     ensures same { drop result looks.new ≡ drop result looks.old }
 {
     let n = seconds.len().min(looks.len());
-    for i in 0..n {
-        looks[i] = seen(tables, rule, seconds[i]);
+    let asked = &seconds[..n];
+    for (place, second) in asked.iter().enumerate() {
+        looks[place] = seen(tables, rule, *second);
     }
     n
 }

@@ -1,0 +1,7 @@
+// A law of summer time that is chosen when the program runs.
+#[derive(Clone, Copy)]
+pub(crate) enum Law {
+    Europe,
+    America,
+    NoSummer,
+}
