@@ -7,7 +7,7 @@ use layers::Vouching;
 
 // Sets a clock, lets seconds pass, and reads it.
 fn reading<C: SettableClock>(c: &mut C, s: u32, n: u32) -> Option<u32>
-    ensures { C.SettableClock.first ≤ s → s ≤ C.SettableClock.last → n ≤ C.SettableClock.span_for s → result ≡ Some (s + n) }
+    ensures { C.kind.first ≤ s → s ≤ C.kind.last → n ≤ C.kind.span_for s → result ≡ Some (s + n) }
 {
     let _ = c.set(s);
     c.pass(n);
@@ -20,7 +20,7 @@ fn same_under_a_layer<C: SettableClock + Drop>(
     s: u32,
     n: u32,
 ) -> (Option<u32>, Option<u32>)
-    ensures { C.SettableClock.first ≤ s → s ≤ C.SettableClock.last → n ≤ vouched_seconds → result.0 ≡ result.1 }
+    ensures { C.kind.first ≤ s → s ≤ C.kind.last → n ≤ vouched_seconds → result.0 ≡ result.1 }
 {
     let mut layered = Vouching::new(lower);
     let _ = bare.set(s);

@@ -1,4 +1,4 @@
-ghost use Rattle.std.specs.Prelude.{◌≡◌, ◌+◌, ◌*◌, drop, Some, None};
+ghost use Rattle.std.specs.Prelude.{◌≡◌, drop, Some, None};
 ghost use Rattle.orders.specs.Form.{command_at, closes, size_of, stands};
 
 // One command of a work order.
@@ -11,18 +11,6 @@ pub enum Command {
     Discard,
 }
 
-fn two(b1: u8, b0: u8) -> u32
-    ensures { result ≡ b1 * 256 + b0 }
-{
-    u32::from(b1) * 256 + u32::from(b0)
-}
-
-fn four(b3: u8, b2: u8, b1: u8, b0: u8) -> u32
-    ensures { result ≡ ((b3 * 256 + b2) * 256 + b1) * 256 + b0 }
-{
-    ((u32::from(b3) * 256 + u32::from(b2)) * 256 + u32::from(b1)) * 256 + u32::from(b0)
-}
-
 // The command that the bytes begin with, and the rest of them.
 pub fn next_command(bytes: &[u8]) -> Option<(Command, &[u8])>
     ensures { elim result [ Some p ↦ (command_at bytes.now ≡ Some p.0) × (p.1.now ≡ drop (size_of p.0) bytes.now) | None ↦ command_at bytes.now ≡ None ] }
@@ -30,7 +18,10 @@ pub fn next_command(bytes: &[u8]) -> Option<(Command, &[u8])>
     match bytes {
         [0x01, rest @ ..] => Some((Command::Open, rest)),
         [0x10, c1, c0, v3, v2, v1, v0, rest @ ..] => Some((
-            Command::Put(two(*c1, *c0), four(*v3, *v2, *v1, *v0)),
+            Command::Put(
+                u32::from(u16::from_be_bytes([*c1, *c0])),
+                u32::from_be_bytes([*v3, *v2, *v1, *v0]),
+            ),
             rest,
         )),
         [0x20, rest @ ..] => Some((Command::Check, rest)),
@@ -47,10 +38,8 @@ impl Command {
     {
         match self {
             Command::Open => place == 0,
-            Command::Put(_, _) => place != 0,
-            Command::Check => place != 0,
-            Command::Commit => place != 0 && after == 0,
-            Command::Discard => place != 0 && after == 0,
+            Command::Put(_, _) | Command::Check => place != 0,
+            Command::Commit | Command::Discard => place != 0 && after == 0,
         }
     }
 
@@ -58,12 +47,6 @@ impl Command {
     pub(crate) fn closes(self) -> bool
         ensures { result ≡ closes self }
     {
-        match self {
-            Command::Open => false,
-            Command::Put(_, _) => false,
-            Command::Check => false,
-            Command::Commit => true,
-            Command::Discard => true,
-        }
+        matches!(self, Command::Commit | Command::Discard)
     }
 }

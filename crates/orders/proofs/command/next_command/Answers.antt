@@ -18,7 +18,7 @@ put xs a b h e p q =
     rw (z, e, l, p, q)
 
 pub returns-in-16 : goal.returns-in-16
-returns-in-16 c = (put c.args.bytes.now c.two.result c.four.result (search rules) (search rules) c.two.ensures c.four.ensures, rest 7 c.args.bytes.now)
+returns-in-16 c = (put c.args.bytes.now c.from.result c.from_be_bytes-in-16.result (search rules) (search rules) (omega arith) (omega arith), rest 7 c.args.bytes.now)
 
 pub returns-in-64 : goal.returns-in-64
 returns-in-64 c = (search rules, rest 1 c.args.bytes.now)
