@@ -147,13 +147,3 @@ no_day n y m d k e h i =
     let t = i.day_to in
     let g : (month_first_of (y * 12 + m - 23640 + 1) -ℤ month_first_of (y * 12 + m - 23640)) <ℤ pos d = rw (← e) h in
     omega (arith, ints)
-
--- a month that begins after a day of the calendar is not the first of the table, and one that begins by then not the last
-pub later_first : (k : ℕ) (n : ℤ) → negsuc 30 ≤ℤ n → n <ℤ month_first_of k → 0 < k
-later_first zero n l h = let b = begins in absurd (omega (arith, ints))
-later_first (suc k) n l h = omega arith
-
-pub earlier_first : (k : ℕ) (n : ℤ) → n <ℤ pos 49732 → k < 1635 → month_first_of (k + 1) ≤ℤ n → k + 1 < 1635
-earlier_first k n u l h =
-    let not_last : k + 1 ≡ 1635 → ⊥ = λ e. let f : month_first_of (k + 1) ≡ month_first_of 1635 = ap month_first_of e in let g = ends in omega (arith, ints) in
-    omega arith

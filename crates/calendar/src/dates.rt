@@ -2,10 +2,10 @@ ghost use Rattle.std.specs.Prelude.{◌+◌, ◌<◌, pos, negsuc, ◌≤ℤ◌,
 ghost use Rattle.calendar.specs.Dates.{DateOf, DayOf, SameDate, SameDay};
 ghost use Rattle.calendar.specs.Months.{month_first_of};
 
-use crate::months::first;
+use crate::months::{first, month_firsts};
 use refusal::Refusal;
 
-// The place of the month that a day lies in: about 3,044 days are a hundred months, and the table has the last word.
+// The place of the month that a day lies in: the last that does not begin later.
 fn place_of(day: i32) -> usize
     requires from { negsuc 30 ≤ℤ day }
     requires to { day <ℤ pos 49732 }
@@ -13,14 +13,7 @@ fn place_of(day: i32) -> usize
     ensures begun { month_first_of result ≤ℤ day }
     ensures open { day <ℤ month_first_of (result + 1) }
 {
-    let mut place = ((day + 31) as usize * 100 / 3044).min(1634);
-    'back: while first(place) > day {
-        place -= 1;
-    }
-    'on: while first(place + 1) <= day {
-        place += 1;
-    }
-    place
+    month_firsts().partition_point(|first| *first <= day) - 1
 }
 
 // The year, month and day of a day number from -31 to 49,731.

@@ -137,11 +137,7 @@ pub fn month_firsts() -> &'static [i32]
 pub fn month_first(place: usize) -> Option<i32>
     ensures { result ≡ first_at place }
 {
-    if place < 1636 {
-        Some(first(place))
-    } else {
-        None
-    }
+    month_firsts().get(place).copied()
 }
 
 // The same at a place that the table has.
@@ -149,6 +145,5 @@ pub(crate) fn first(place: usize) -> i32
     requires { place < 1636 }
     ensures { result ≡ month_first_of place }
 {
-    let firsts = month_firsts();
-    firsts[place]
+    month_firsts()[place]
 }
