@@ -3,6 +3,7 @@
 
 mod calls;
 mod living;
+mod printed;
 mod telling;
 mod ticket;
 

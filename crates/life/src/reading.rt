@@ -1,6 +1,5 @@
-ghost use Rattle.std.specs.Prelude.{◌<◌, IfSome};
-
 use crate::step::Step;
+use hex::FromHexError;
 use history::Call;
 use std::alloc::{AllocError, AllocFailed, Global};
 
@@ -35,14 +34,12 @@ impl Life {
     pub fn read(heap: Global, text: &str) -> Result<Life, NotALife> {
         let mut steps = Vec::new(heap);
         let mut orders = Vec::new(heap);
-        let mut number = 0usize;
-        for line in text.lines() {
-            number = number.saturating_add(1);
+        for (before, line) in text.lines().enumerate() {
             if is_blank(line) {
                 continue;
             }
             let Some(step) = step_of(line, &mut orders)? else {
-                return Err(NotALife::Line(number));
+                return Err(NotALife::Line(before.saturating_add(1)));
             };
             steps.push(step)?;
         }
@@ -60,31 +57,14 @@ impl Life {
     }
 }
 
-fn is_blank(line: &str) -> bool {
+pub(crate) fn is_blank(line: &str) -> bool {
     line.split_whitespace().next().is_none()
 }
 
 fn call_of(step: Step, orders: &[u8]) -> Call<'_> {
     match step {
-        Step::Look => Call::Look,
-        Step::Set(second) => Call::Set(second),
-        Step::Pass(seconds) => Call::Pass(seconds),
-        Step::Get(cell) => Call::Get(cell),
-        Step::Open => Call::Open,
-        Step::Put(cell, value) => Call::Put(cell, value),
-        Step::Check => Call::Check,
-        Step::Commit => Call::Commit,
-        Step::Discard => Call::Discard,
-        Step::Clear => Call::Clear,
-        Step::Run(from, to) => Call::Run(order_at(orders, from, to)),
-    }
-}
-
-fn order_at(orders: &[u8], from: usize, to: usize) -> &[u8] {
-    if from <= to && to <= orders.len() {
-        &orders[from..to]
-    } else {
-        &[]
+        Step::Plain(call) => call,
+        Step::Run(from, to) => Call::Run(orders.get(from..to).unwrap_or(&[])),
     }
 }
 
@@ -107,65 +87,51 @@ fn step_of(line: &str, orders: &mut Vec<u8>) -> Result<Option<Step>, NotALife> {
 
 // A run without bytes is the empty order.
 fn bare_step(name: &str, place: usize) -> Option<Step> {
-    match name {
-        "look" => Some(Step::Look),
-        "open" => Some(Step::Open),
-        "check" => Some(Step::Check),
-        "commit" => Some(Step::Commit),
-        "discard" => Some(Step::Discard),
-        "clear" => Some(Step::Clear),
-        "run" => Some(Step::Run(place, place)),
-        _ => None,
-    }
+    let call = match name {
+        "look" => Call::Look,
+        "open" => Call::Open,
+        "check" => Call::Check,
+        "commit" => Call::Commit,
+        "discard" => Call::Discard,
+        "clear" => Call::Clear,
+        "run" => return Some(Step::Run(place, place)),
+        _ => return None,
+    };
+    Some(Step::Plain(call))
 }
 
 fn step_with(name: &str, word: &str, orders: &mut Vec<u8>) -> Result<Option<Step>, NotALife> {
     if name == "run" {
-        return run_step(word.as_bytes(), orders);
+        return run_step(word, orders);
     }
     let Ok(number) = word.parse::<u32>() else {
         return Ok(None);
     };
-    Ok(match name {
-        "set" => Some(Step::Set(number)),
-        "pass" => Some(Step::Pass(number)),
-        "get" => Some(Step::Get(number)),
-        _ => None,
-    })
+    let call = match name {
+        "set" => Call::Set(number),
+        "pass" => Call::Pass(number),
+        "get" => Call::Get(number),
+        _ => return Ok(None),
+    };
+    Ok(Some(Step::Plain(call)))
 }
 
 fn put_step(name: &str, cell: &str, value: &str) -> Option<Step> {
     if name != "put" {
         return None;
     }
-    match (cell.parse::<u32>(), value.parse::<u32>()) {
-        (Ok(cell), Ok(value)) => Some(Step::Put(cell, value)),
-        _ => None,
-    }
+    let cell = cell.parse::<u32>().ok()?;
+    let value = value.parse::<u32>().ok()?;
+    Some(Step::Plain(Call::Put(cell, value)))
 }
 
 // Two hexadecimal digits to a byte.
-fn run_step(digits: &[u8], orders: &mut Vec<u8>) -> Result<Option<Step>, NotALife> {
+fn run_step(digits: &str, orders: &mut Vec<u8>) -> Result<Option<Step>, NotALife> {
     let from = orders.len();
-    if digits.len() % 2 != 0 {
-        return Ok(None);
-    }
-    for i in 0..digits.len() / 2 {
-        let (Some(high), Some(low)) = (digit(digits[2 * i]), digit(digits[2 * i + 1])) else {
-            return Ok(None);
-        };
-        orders.push(16 * high + low)?;
+    match hex::decode(*orders.allocator(), digits) {
+        Ok(bytes) => orders.extend_from_slice(&bytes)?,
+        Err(FromHexError::OutOfMemory) => return Err(NotALife::NoMemory),
+        Err(_) => return Ok(None),
     }
     Ok(Some(Step::Run(from, orders.len())))
-}
-
-fn digit(c: u8) -> Option<u8>
-    ensures { IfSome result (λ d. d < 16) }
-{
-    match c {
-        b'0'..=b'9' => Some(c - b'0'),
-        b'a'..=b'f' => Some(c - b'a' + 10),
-        b'A'..=b'F' => Some(c - b'A' + 10),
-        _ => None,
-    }
 }

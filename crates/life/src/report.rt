@@ -1,5 +1,5 @@
+use crate::reading::is_blank;
 use history::Answer;
-use lines::write_look;
 use refusal::Refusal;
 use schedule::Look;
 use std::io;
@@ -11,32 +11,11 @@ pub(crate) fn write_answers<W: Write>(
     answers: &[Answer],
     out: &mut W,
 ) -> io::Result<()> {
-    let mut place = 0;
-    for line in text.lines() {
-        if line.split_whitespace().next().is_none() {
-            continue;
-        }
-        if place < answers.len() {
-            write!(out, "{line}: ")?;
-            write_answer(answers[place], out)?;
-            place += 1;
-        }
+    let called = text.lines().filter(|line| !is_blank(line));
+    for (line, answer) in called.zip(answers) {
+        writeln!(out, "{line}: {answer}")?;
     }
     Ok(())
-}
-
-fn write_answer<W: Write>(answer: Answer, out: &mut W) -> io::Result<()> {
-    match answer {
-        Answer::Done => writeln!(out, "done"),
-        Answer::Cell(value) => writeln!(out, "{value}"),
-        Answer::Seen(look) => write_look(&look, out),
-        Answer::Refused(why) => writeln!(out, "refused {why}"),
-        Answer::Stopped(stopped) => {
-            let why = stopped.why;
-            let place = stopped.place;
-            writeln!(out, "refused {why} at place {place}")
-        }
-    }
 }
 
 // Both looks, and whether they agree.
@@ -45,21 +24,14 @@ pub(crate) fn write_looks<W: Write>(
     reader: Result<Look, Refusal>,
     out: &mut W,
 ) -> io::Result<()> {
-    write!(out, "meter: ")?;
-    write_result(meter, out)?;
-    write!(out, "reader: ")?;
-    write_result(reader, out)?;
+    let shown = Answer::from(meter);
+    let read = Answer::from(reader);
+    writeln!(out, "meter: {shown}")?;
+    writeln!(out, "reader: {read}")?;
     match (meter, reader) {
         (Ok(shown), Ok(read)) => write_difference(shown, read, out),
         (Err(why), Err(too)) if why == too => writeln!(out, "agree"),
         _ => writeln!(out, "differ: one has a look, or another refusal"),
-    }
-}
-
-fn write_result<W: Write>(look: Result<Look, Refusal>, out: &mut W) -> io::Result<()> {
-    match look {
-        Ok(look) => write_look(&look, out),
-        Err(why) => writeln!(out, "refused {why}"),
     }
 }
 

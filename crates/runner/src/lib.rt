@@ -2,6 +2,7 @@
 #![tactic(auto)]
 
 mod lent;
+mod printed;
 mod running;
 mod stopped;
 

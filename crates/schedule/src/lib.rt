@@ -10,6 +10,7 @@ mod looking;
 mod moment;
 mod opening;
 mod plans;
+mod printed;
 mod row_in_force;
 mod shown;
 
