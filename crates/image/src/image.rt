@@ -29,6 +29,7 @@ impl Format for Image {
     fn known(_bytes: &[u8]) {}
 
     // A full image has all of them.
+    #[tactic(auto, using(crate::specs::Laws::image_few))]
     fn count(bytes: &[u8]) -> u32 {
         if Self::has(bytes, CELLS - 1) {
             return CELLS;
@@ -36,6 +37,7 @@ impl Format for Image {
         (0..CELLS).find(|c| !Self::has(bytes, *c)).unwrap_or(CELLS)
     }
 
+    #[tactic(auto, using(crate::proofs::Placed::has, crate::proofs::Placed::past))]
     fn has(bytes: &[u8], c: u32) -> bool {
         c < CELLS && place(c) + width(c) <= bytes.len()
     }

@@ -27,6 +27,7 @@ impl Format for Words {
 
     ghost laws = { word_laws };
 
+    #[tactic(auto, using(crate::proofs::Fronts::front_whole))]
     fn known(_memory: &[u32]) {}
 
     fn count(memory: &[u32]) -> u32 {
@@ -46,12 +47,14 @@ impl Format for Words {
         true
     }
 
+    #[tactic(auto, using(crate::proofs::Fronts::front_long, crate::proofs::Fronts::front_set, crate::proofs::Fronts::front_rest))]
     fn write(memory: &mut [u32], c: u32, v: u32) {
         memory[c as usize] = v;
     }
 }
 
 // The words that are cells.
+#[tactic(auto, using(std::proofs::lemmas::List::take_min), unfolding(crate::specs::Words::word_cells))]
 pub fn cells_in(memory: &[u32]) -> &[u32]
     ensures answer { result.now ≡ word_cells memory.now }
     ensures few { length result.now ≤ cell_count }
