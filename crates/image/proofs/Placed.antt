@@ -1,5 +1,5 @@
 -- The image at the layout's widths: each cell at the layout's place.
-use Rattle.std.proofs.Common.{◌≡◌, ℕ, zero, suc, ◌+◌, ◌^◌, ◌<◌, ◌≤◌, false, ltb, leb, List, [], ◌∷◌, ◌++◌, length, get_or, take, drop, set, sym, refl, ap, ◌∙◌, subst, inl, inr, ⊎_elim, zero-add, arith}
+use Rattle.std.proofs.Common.{◌≡◌, ℕ, zero, suc, ◌+◌, ◌^◌, ◌<◌, ◌≤◌, false, ltb, leb, List, [], ◌++◌, length, get_or, take, drop, set, sym, refl, ap, ◌∙◌, subst, inl, inr, ⊎_elim, zero-add, arith}
 use Rattle.layout.proofs.Fields.{width_least}
 use Rattle.layout.specs.Layout.{cell_count, place_of, width}
 use Rattle.std.proofs.lemmas.List.{append-nil, length-drop, length-take-le, take-append-drop, take_more}
@@ -119,7 +119,3 @@ encode_more vs i h =
 pub encode_turn : (vs xs ys : List ℕ) (i n v : ℕ) → i < length vs → xs ≡ image_of (take i vs) → n ≡ width i → v ≡ get_or vs i 0 → ys ≡ xs ++ bytes_of n v
     → ys ≡ image_of (take (i + 1) vs)
 encode_turn vs xs ys i n v h p w e q = let more = encode_more vs i h in q ∙ rw (p, w, e) (sym more)
-
--- one more cell decoded
-pub decode_turn : (vs xs ys : List ℕ) (i v : ℕ) → i < length vs → xs ≡ take i vs → v ≡ get_or vs i 0 → ys ≡ xs ++ v ∷ [] → ys ≡ take (i + 1) vs
-decode_turn vs xs ys i v h p e q = let more = take_more vs i 0 h in q ∙ rw (p, e) (sym more)

@@ -22,3 +22,6 @@ module _ (ws : List ℕ) where
     pub front_rest : (v : ℕ) → word_rest (set ws c v) ≡ word_rest ws
     unfolding word_cells word_rest
     front_rest v = drop-set-lt cell_count ws c v (omega (arith, length-take cell_count ws))
+
+-- what a word written leaves
+pub ruleset fronts = (front_long, front_set, front_rest)

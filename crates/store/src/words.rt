@@ -47,7 +47,7 @@ impl Format for Words {
         true
     }
 
-    #[tactic(auto, using(crate::proofs::Fronts::front_long, crate::proofs::Fronts::front_set, crate::proofs::Fronts::front_rest))]
+    #[tactic(auto, using(crate::proofs::Fronts::fronts))]
     fn write(memory: &mut [u32], c: u32, v: u32) {
         memory[c as usize] = v;
     }
