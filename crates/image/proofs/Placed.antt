@@ -29,7 +29,7 @@ module _ (bs : List ℕ) (c : ℕ) where
   pub bound : c < length (image_cells bs) → (c < cell_count) × (place_of c + width c ≤ length bs)
   bound h = let k = place_span c in let a = next c in let f = fits width c cell_count 0 bs h in (f.0, omega arith)
 
-  -- the two tests of `has_cell`
+  -- the two tests of `has`
   pub has : (n : ℕ) → n ≡ place_of c + width c → c < cell_count → leb n (length bs) ≡ ltb c (length (image_cells bs))
   has n e h =
       ⊎_elim
