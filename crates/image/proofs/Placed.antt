@@ -1,14 +1,12 @@
 -- The image at the layout's widths: each cell at the layout's place.
-use Rattle.std.proofs.Common.{◌≡◌, ℕ, zero, suc, ◌+◌, ◌^◌, ◌<◌, ◌≤◌, false, ltb, leb, List, [], ◌++◌, length, get_or, take, drop, set, sym, refl, ap, ◌∙◌, subst, inl, inr, ⊎_elim, zero-add, arith}
+use Rattle.std.proofs.Common.{◌≡◌, ℕ, zero, suc, ◌+◌, ◌^◌, ◌<◌, ◌≤◌, List, [], ◌++◌, length, get_or, take, drop, set, sym, refl, ap, ◌∙◌, subst, inl, inr, ⊎_elim, zero-add, arith}
 use Rattle.layout.proofs.Fields.{width_least}
 use Rattle.layout.specs.Layout.{cell_count, place_of, width}
 use Rattle.std.proofs.lemmas.List.{append-nil, length-drop, length-take-le, take-append-drop, take_more}
-use Rattle.std.proofs.lemmas.Bool.{cases_lt, le-leb, le-ltb, lt-leb, lt-ltb}
 use Rattle.std.specs.Int.Digits.{number_from_digits}
 use Rattle.image.proofs.Digits.{length-bytes_of, number-bytes_of}
 use Rattle.image.proofs.Spans.{back as back_at, encode_push, fits, inside, keeps, read, span_more, span_from, whole as whole-at, write}
 use Rattle.image.specs.Image.{Bytes, bytes_of, Ended, Faithful, Fitting, image_cells, image_of, image_rest}
-use Rattle.image.specs.Laws.{image_few}
 
 next : (c : ℕ) → span_from width 0 (suc c) ≡ span_from width 0 c + width c
 next c = let e = ap width (zero-add c) in let m = span_more width 0 c in omega arith
@@ -28,17 +26,6 @@ module _ (bs : List ℕ) (c : ℕ) where
 
   pub bound : c < length (image_cells bs) → (c < cell_count) × (place_of c + width c ≤ length bs)
   bound h = let k = place_span c in let a = next c in let f = fits width c cell_count 0 bs h in (f.0, omega arith)
-
-  -- the two tests of `has`
-  pub has : (n : ℕ) → n ≡ place_of c + width c → c < cell_count → leb n (length bs) ≡ ltb c (length (image_cells bs))
-  has n e h =
-      ⊎_elim
-      (λ p. lt-leb n (length bs) p ∙ sym (le-ltb c (length (image_cells bs)) (⊎_elim (λ q. let b = (bound q).1 in absurd (omega arith)) (λ q. q) (cases_lt c (length (image_cells bs))))))
-      (λ p. le-leb n (length bs) p ∙ sym (lt-ltb c (length (image_cells bs)) (there h (omega arith))))
-      (cases_lt (length bs) n)
-
-  pub past : cell_count ≤ c → ltb c (length (image_cells bs)) ≡ false
-  past h = le-ltb c (length (image_cells bs)) (let f = image_few bs in omega arith)
 
   module _ (h : c < length (image_cells bs)) (at n : ℕ) (a : at ≡ place_of c) (e : n ≡ width c) where
     front : List ℕ

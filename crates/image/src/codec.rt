@@ -20,6 +20,7 @@ pub fn decode(heap: Global, image: &[u8]) -> Result<Vec<u32>, AllocError>
 }
 
 // The image of some cells, at most as many as an image has; decoded again, it is the cells.
+#[tactic(auto, unfolding(crate::specs::Image::encode_from))]
 pub fn encode(heap: Global, cells: &[u32]) -> Result<Vec<u8>, AllocError>
     ensures answer { IfOk result (λ v. v.items ≡ image_of (word_cells cells.now)) }
     ensures trip { Faithful (word_cells cells.now) }

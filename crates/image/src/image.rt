@@ -37,7 +37,7 @@ impl Format for Image {
         (0..CELLS).find(|c| !Self::has(bytes, *c)).unwrap_or(CELLS)
     }
 
-    #[tactic(auto, using(crate::proofs::Placed::has, crate::proofs::Placed::past))]
+    #[tactic(auto, using(crate::proofs::Placed::there, crate::proofs::Placed::bound, crate::specs::Laws::image_few))]
     fn has(bytes: &[u8], c: u32) -> bool {
         c < CELLS && place(c) + width(c) <= bytes.len()
     }
@@ -50,6 +50,7 @@ impl Format for Image {
         u64::from(v) < 256u64.pow(width(c) as u32)
     }
 
+    #[tactic(auto, using(crate::proofs::Placed::bound))]
     fn write(bytes: &mut [u8], c: u32, v: u32) {
         let at = place(c);
         let n = width(c);
@@ -58,6 +59,7 @@ impl Format for Image {
 }
 
 // What a cell holds.
+#[tactic(auto, using(crate::proofs::Placed::bound))]
 pub(crate) fn read_cell(bytes: &[u8], c: u32) -> u32
     requires { c < length (image_cells bytes.now) }
     ensures { result ≡ slice_index (image_cells bytes.now) c }

@@ -6,9 +6,6 @@ use Rattle.image.proofs.Four.{number_last, zeros}
 use Rattle.image.proofs.Placed.{bound, read_at}
 use Rattle.image.proofs.image.read_cell.Goals as goal
 
-pub slice_bounds-copy_from_slice-end : goal.slice_bounds-copy_from_slice-end
-slice_bounds-copy_from_slice-end c = let b = (bound c.args.bytes.now c.args.c c.requires).1 in omega arith
-
 pub returns : goal.returns
 returns c =
     let bs = c.args.bytes.now in

@@ -1,12 +1,9 @@
 use Rattle.std.proofs.Common.{◌≡◌, ℕ, ◌+◌, ◌-◌, sym, ap, ◌∙◌, arith}
 use borrow.Rule.Slice.PartMut.{put_mid}
 use Rattle.image.proofs.Four.{last_bytes}
-use Rattle.image.proofs.Placed.{bound, keeps_at, write_at}
+use Rattle.image.proofs.Placed.{keeps_at, write_at}
 use Rattle.image.proofs.image.ImageFormat.write.Goals as goal
 use Rattle.image.specs.Image.{bytes_of, image_cells, image_rest}
-
-pub slice_bounds-copy_from_slice-end : goal.slice_bounds-copy_from_slice-end
-slice_bounds-copy_from_slice-end c = let b = (bound c.args.bytes.now c.args.c c.requires.there).1 in omega arith
 
 pub returns : goal.returns
 returns c =
