@@ -7,6 +7,7 @@ use Rattle.std.specs.Int.Digits.{number_from_digits}
 use Rattle.image.proofs.Digits.{length-bytes_of, number-bytes_of}
 use Rattle.image.proofs.Spans.{back as back_at, encode_push, fits, inside, keeps, read, span_more, span_from, whole as whole-at, write}
 use Rattle.image.specs.Image.{Bytes, bytes_of, Ended, Faithful, Fitting, image_cells, image_of, image_rest}
+use Rattle.image.specs.Laws.{image_few}
 
 next : (c : ℕ) → span_from width 0 (suc c) ≡ span_from width 0 c + width c
 next c = let e = ap width (zero-add c) in let m = span_more width 0 c in omega arith
@@ -106,3 +107,6 @@ encode_more vs i h =
 pub encode_turn : (vs xs ys : List ℕ) (i n v : ℕ) → i < length vs → xs ≡ image_of (take i vs) → n ≡ width i → v ≡ get_or vs i 0 → ys ≡ xs ++ bytes_of n v
     → ys ≡ image_of (take (i + 1) vs)
 encode_turn vs xs ys i n v h p w e q = let more = encode_more vs i h in q ∙ rw (p, w, e) (sym more)
+
+-- when a cell is there
+pub ruleset places = (there, bound, image_few)

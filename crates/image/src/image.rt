@@ -37,7 +37,7 @@ impl Format for Image {
         (0..CELLS).find(|c| !Self::has(bytes, *c)).unwrap_or(CELLS)
     }
 
-    #[tactic(auto, using(crate::proofs::Placed::there, crate::proofs::Placed::bound, crate::specs::Laws::image_few))]
+    #[tactic(auto, using(crate::proofs::Placed::places))]
     fn has(bytes: &[u8], c: u32) -> bool {
         c < CELLS && place(c) + width(c) <= bytes.len()
     }

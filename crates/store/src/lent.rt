@@ -36,6 +36,7 @@ impl<'a, F: Format> LentStore<'a, F> {
         memory
     }
 
+    // The cells and what lies past them are all of the memory.
     fn known(&self)
         ensures { F.made (F.cells self.now.memory.now) (F.rest self.now.memory.now) ≡ self.now.memory.now }
     {
@@ -82,21 +83,8 @@ pub fn put_in<F: Format>(memory: &mut [F::Unit], entries: &[Entry]) -> Result<()
     ensures memory { memory.new ≡ F.made (puts_cells (F.cells memory.old) F.width entries.now) (F.rest memory.old) }
     ensures same { puts_cells (F.cells memory.old) F.width entries.now ≡ F.cells memory.old → memory.new ≡ memory.old }
 {
-    let (answer, _memory) = memory_after::<F>(memory, entries);
-    answer
-}
-
-// The memory is handed back, for its lender to know what it holds.
-fn memory_after<'a, F: Format>(
-    memory: &'a mut [F::Unit],
-    entries: &[Entry],
-) -> (Result<(), Refusal>, &'a mut [F::Unit])
-    ensures answer { result.0 ≡ puts_answer (F.cells memory.old) F.width entries.now }
-    ensures memory { result.1.now ≡ F.made (puts_cells (F.cells memory.old) F.width entries.now) (F.rest memory.old) }
-    ensures same { puts_cells (F.cells memory.old) F.width entries.now ≡ F.cells memory.old → result.1.now ≡ memory.old }
-    ensures home { result.1.ghost_name ≡ memory.entry.ghost_name }
-{
     let mut store = LentStore::<F>::new(memory);
     let answer = put_each(&mut store, entries);
-    (answer, store.into_memory())
+    store.known();
+    answer
 }
