@@ -1,9 +1,8 @@
 -- The image at the layout's widths: each cell at the layout's place.
-use Rattle.std.proofs.Common.{◌≡◌, ℕ, zero, suc, ◌+◌, ◌-◌, ◌/◌, ◌%◌, ◌^◌, ◌<◌, ◌≤◌, false, ltb, leb, List, [], ◌∷◌, ◌++◌, length, get_or, take, drop, set, sym, refl, ap, ◌∙◌, subst, inl, inr, ⊎_elim, add-zero, zero-add, arith}
+use Rattle.std.proofs.Common.{◌≡◌, ℕ, zero, suc, ◌+◌, ◌^◌, ◌<◌, ◌≤◌, List, [], ◌++◌, length, get_or, take, drop, set, sym, refl, ap, ◌∙◌, subst, inl, inr, ⊎_elim, zero-add, arith}
 use Rattle.layout.proofs.Fields.{width_least}
 use Rattle.layout.specs.Layout.{cell_count, place_of, width}
-use Rattle.std.proofs.lemmas.List.{append_assoc, append-nil, drop-drop, drop-set, length-drop, length-take-le, take-append-drop, take_more, take-set-le}
-use Rattle.std.proofs.lemmas.Bool.{cases_lt, le-leb, le-ltb, lt-leb, lt-ltb}
+use Rattle.std.proofs.lemmas.List.{append-nil, length-drop, length-take-le, take-append-drop, take_more}
 use Rattle.std.specs.Int.Digits.{number_from_digits}
 use Rattle.image.proofs.Digits.{length-bytes_of, number-bytes_of}
 use Rattle.image.proofs.Spans.{back as back_at, encode_push, fits, inside, keeps, read, span_more, span_from, whole as whole-at, write}
@@ -20,7 +19,7 @@ place_span (suc c) = let h = place_span c in let m = next c in omega arith
 
 -- the bytes of a memory with v written into the n bytes from `at` on
 abbrev pub written : ℕ → ℕ → ℕ → List ℕ → List ℕ
-written at n v bs = take at bs ++ (bytes_of n v ++ drop (at + n) bs)
+written at n v bs = take at bs ++ (bytes_of n v ++ drop n (drop at bs))
 
 module _ (bs : List ℕ) (c : ℕ) where
   pub there : c < cell_count → place_of c + width c ≤ length bs → c < length (image_cells bs)
@@ -28,17 +27,6 @@ module _ (bs : List ℕ) (c : ℕ) where
 
   pub bound : c < length (image_cells bs) → (c < cell_count) × (place_of c + width c ≤ length bs)
   bound h = let k = place_span c in let a = next c in let f = fits width c cell_count 0 bs h in (f.0, omega arith)
-
-  -- the two tests of `has_cell`
-  pub has : (n : ℕ) → n ≡ place_of c + width c → c < cell_count → leb n (length bs) ≡ ltb c (length (image_cells bs))
-  has n e h =
-      ⊎_elim
-      (λ p. lt-leb n (length bs) p ∙ sym (le-ltb c (length (image_cells bs)) (⊎_elim (λ q. let b = (bound q).1 in absurd (omega arith)) (λ q. q) (cases_lt c (length (image_cells bs))))))
-      (λ p. le-leb n (length bs) p ∙ sym (lt-ltb c (length (image_cells bs)) (there h (omega arith))))
-      (cases_lt (length bs) n)
-
-  pub past : cell_count ≤ c → ltb c (length (image_cells bs)) ≡ false
-  past h = le-ltb c (length (image_cells bs)) (let f = image_few bs in omega arith)
 
   module _ (h : c < length (image_cells bs)) (at n : ℕ) (a : at ≡ place_of c) (e : n ≡ width c) where
     front : List ℕ
@@ -75,37 +63,15 @@ module _ (bs : List ℕ) (c : ℕ) where
       new_long : length (bytes_of n v) ≡ width c
       new_long = length-bytes_of n v ∙ e
 
-      same_back : written at n v bs ≡ front ++ (bytes_of n v ++ back)
-      unfolding front back
-      same_back = rw (drop-drop n at bs)
-
       pub write_at : image_cells (written at n v bs) ≡ set (image_cells bs) c v
+      unfolding front back
       write_at =
-          ap image_cells same_back
-          ∙ write width c cell_count 0 c front part (bytes_of n v) back (omega arith) (bound h).0 front_long part_long new_long
+          write width c cell_count 0 c front part (bytes_of n v) back (omega arith) (bound h).0 front_long part_long new_long
           ∙ ap (λ (x : List ℕ). set (image_cells x) c (number_from_digits 256 (bytes_of n v))) parts ∙ ap (set (image_cells bs) c) value
 
       pub keeps_at : image_rest (written at n v bs) ≡ image_rest bs
-      keeps_at =
-          ap image_rest same_back
-          ∙ keeps width c cell_count 0 c front part (bytes_of n v) back (omega arith) (bound h).0 front_long part_long new_long ∙ ap image_rest parts
-
--- one more byte written, from the last on
-pub write_more : (at k left : ℕ) (bs : List ℕ) → 0 < k → at + k ≤ length bs
-    → written at (k - 1) (left / 256) (set bs (at + (k - 1)) (left % 256)) ≡ written at k left bs
-unfolding bytes_of
-write_more at zero left bs p h = absurd (omega arith)
-write_more at (suc j) left bs p h =
-    let q : suc j - 1 ≡ j = omega arith in
-    let t : take at (set bs (at + j) (left % 256)) ≡ take at bs = take-set-le at bs (at + j) (left % 256) (omega arith) in
-    let d : drop (at + j) (set bs (at + j) (left % 256)) ≡ left % 256 ∷ drop (at + j + 1) bs = drop-set bs (at + j) (left % 256) (omega arith) in
-    let a : at + j + 1 ≡ at + suc j = omega arith in
-    rw (q, t, d, a) (ap (λ (x : List ℕ). take at bs ++ x) (sym (append_assoc (bytes_of j (left / 256)) (left % 256 ∷ []) (drop (at + suc j) bs))))
-
-pub write_end : (at k left : ℕ) (bs : List ℕ) → k ≤ 0 → bs ≡ written at k left bs
-unfolding bytes_of
-write_end at zero left bs h = let a = add-zero at in rw a (sym (take-append-drop at bs))
-write_end at (suc k) left bs h = absurd (omega arith)
+      unfolding front back
+      keeps_at = keeps width c cell_count 0 c front part (bytes_of n v) back (omega arith) (bound h).0 front_long part_long new_long ∙ ap image_rest parts
 
 -- no byte holds no whole cell
 alone : {vs : List ℕ} → length vs ≤ cell_count → Ended vs []
@@ -142,6 +108,5 @@ pub encode_turn : (vs xs ys : List ℕ) (i n v : ℕ) → i < length vs → xs �
     → ys ≡ image_of (take (i + 1) vs)
 encode_turn vs xs ys i n v h p w e q = let more = encode_more vs i h in q ∙ rw (p, w, e) (sym more)
 
--- one more cell decoded
-pub decode_turn : (vs xs ys : List ℕ) (i v : ℕ) → i < length vs → xs ≡ take i vs → v ≡ get_or vs i 0 → ys ≡ xs ++ v ∷ [] → ys ≡ take (i + 1) vs
-decode_turn vs xs ys i v h p e q = let more = take_more vs i 0 h in q ∙ rw (p, e) (sym more)
+-- when a cell is there
+pub ruleset places = (there, bound, image_few)

@@ -2,7 +2,6 @@
 use Rattle.std.specs.Prelude.{◌≡◌, ℕ, zero, suc, ◌/◌, ◌%◌, ◌^◌, ◌<◌, ◌≤◌, cond, ◌⊎◌, List, [], ◌∷◌, ◌++◌, length, take, drop, nat_le, slice_index}
 use Rattle.layout.specs.Layout.{cell_count, width}
 use Rattle.std.specs.Int.Digits.{number_from_digits}
-use Rattle.store.specs.Cells.{Memory}
 
 -- a number in n bytes, high byte first
 unfoldable pub bytes_of : ℕ → ℕ → List ℕ
@@ -35,10 +34,6 @@ image_cells bs = cells_from width cell_count 0 bs
 -- the bytes past the last cell
 abbrev pub image_rest : List ℕ → List ℕ
 image_rest bs = rest_from width cell_count 0 bs
-
--- what a memory of bytes at this place is beside its cells
-abbrev pub image_memory : List ℕ → List ℕ → Memory
-image_memory bs home = record { width = width; rest = image_rest bs; home = home }
 
 -- they are bytes
 abbrev pub Bytes : List ℕ → Type 0

@@ -1,11 +1,10 @@
--- Why an image keeps the laws of a store.
+-- Why an image keeps the laws of a format.
 use Rattle.std.specs.Prelude.{ℕ, zero, suc, ◌≤◌, List, [], ◌∷◌, length, take, drop, nat_le}
-use Rattle.image.specs.Image.{cells_from, image_cells, image_memory}
+use Rattle.image.specs.Image.{cells_from, image_cells}
 use Rattle.layout.specs.Layout.{cell_count, width}
 use Rattle.std.proofs.lemmas.Bool.{cond_both}
 use Rattle.std.specs.Int.Digits.{number_from_digits}
-use Rattle.store.specs.Cells.{StoreLaws}
-use Rattle.store.specs.Laws.{range_held}
+use Rattle.store.specs.Formats.{FormatLaws}
 use Rattle.std.proofs.Common.{arith}
 
 -- at most n cells
@@ -19,9 +18,8 @@ few_cells w (suc n) c bs =
 pub image_few : (bs : List ℕ) → length (image_cells bs) ≤ cell_count
 image_few bs = few_cells width cell_count 0 bs
 
-pub image_laws : {S : Type 0} (bytes home : S → List ℕ) → StoreLaws (λ s. image_cells (bytes s)) (λ s. image_memory (bytes s) (home s))
-image_laws bytes home = record {
-  few = λ s. image_few (bytes s);
-  wide = λ s c. omega arith;
-  range = λ s c v. range_held c v (width c) (omega arith);
+pub image_laws : FormatLaws image_cells width
+image_laws = record {
+  few = image_few;
+  wide = λ c. omega arith;
 }

@@ -1,105 +1,72 @@
-ghost use Rattle.std.specs.Prelude.{◌≡◌, ℕ, ◌^◌, ◌<◌, [], ◌∷◌, ◌++◌, length, nat_lt, slice_set};
+ghost use Rattle.std.specs.Prelude.{◌≡◌, ◌^◌, ◌<◌, ◌++◌, length, slice_index};
 ghost use Rattle.layout.specs.Layout.{width as cellWidth};
-ghost use Rattle.image.specs.Image.{Bytes, image_cells, image_memory, image_of, image_rest};
+ghost use Rattle.image.specs.Image.{Bytes, image_cells, image_of, image_rest};
 ghost use Rattle.image.specs.Laws.{image_laws};
 
-use crate::bytes::{count_cells, has_cell, holds, known, read_cell};
-use layout::{place, width};
-use refusal::Refusal;
-use store::Store;
+use layout::{CELLS, place, width};
+use store::{Format, LentStore};
 
-// The cells in sequence at the layout's widths in the memory lent to it, high byte first.
-#[derive(Drop)]
-pub struct ImageStore<'a> {
-    bytes: &'a mut [u8],
-}
+// The cells in sequence at the layout's widths, high byte first.
+pub enum Image {}
 
-impl<'a> ImageStore<'a> {
-    pub fn new(bytes: &'a mut [u8]) -> ImageStore<'a>
-        ensures answer { result.bytes.now ≡ bytes.old }
-        ensures each { Bytes bytes.old }
-        ensures home { result.bytes.ghost_name ≡ bytes.entry.ghost_name }
-    {
-        known(bytes);
-        ImageStore { bytes }
+pub type ImageStore<'a> = LentStore<'a, Image>;
+
+impl Format for Image {
+    type Unit = u8;
+
+    ghost cells = { image_cells };
+
+    ghost rest = { image_rest };
+
+    ghost width = { cellWidth };
+
+    ghost made = { λ cs rest. image_of cs ++ rest };
+
+    ghost Held = { Bytes };
+
+    ghost laws = { image_laws };
+
+    fn known(_bytes: &[u8]) {}
+
+    // A full image has all of them.
+    #[tactic(auto, using(crate::specs::Laws::image_few))]
+    fn count(bytes: &[u8]) -> u32 {
+        if Self::has(bytes, CELLS - 1) {
+            return CELLS;
+        }
+        (0..CELLS).find(|c| !Self::has(bytes, *c)).unwrap_or(CELLS)
     }
 
-    // Hands the memory back: the cells, encoded, and what lies past them.
-    pub fn into_bytes(self) -> &'a mut [u8]
-        ensures same { result.now ≡ self.entry.bytes.now }
-        ensures memory { result.now ≡ image_of (image_cells self.entry.bytes.now) ++ image_rest self.entry.bytes.now }
-        ensures home { result.ghost_name ≡ self.entry.bytes.ghost_name }
-    {
-        self.known();
-        self.taken_apart()
+    #[tactic(auto, using(crate::proofs::Placed::places))]
+    fn has(bytes: &[u8], c: u32) -> bool {
+        c < CELLS && place(c) + width(c) <= bytes.len()
     }
 
-    // Whether the whole of a cell is there.
-    fn has(&self, c: u32) -> bool
-        ensures { result ≡ nat_lt c (length (image_cells self.now.bytes.now)) }
-    {
-        has_cell(self.bytes, c)
+    fn read(bytes: &[u8], c: u32) -> Option<u32> {
+        Self::has(bytes, c).then(|| read_cell(bytes, c))
     }
 
-    fn known(&self)
-        ensures { Bytes self.now.bytes.now }
-    {
-        known(self.bytes);
+    fn holds(c: u32, v: u32) -> bool {
+        u64::from(v) < 256u64.pow(width(c) as u32)
     }
 
-    fn taken_apart(self) -> &'a mut [u8]
-        ensures answer { result.now ≡ self.entry.bytes.now }
-        ensures home { result.ghost_name ≡ self.entry.bytes.ghost_name }
-    {
-        let ImageStore { bytes } = self;
-        bytes
-    }
-
-    // Writes the bytes of a cell, the last one first.
-    fn write(&mut self, c: u32, v: u32)
-        requires there { c < length (image_cells self.old.bytes.now) }
-        requires fits { v < 256 ^ cellWidth c }
-        ensures after { image_cells self.new.bytes.now ≡ slice_set (image_cells self.old.bytes.now) c v }
-        ensures memory { image_rest self.new.bytes.now ≡ image_rest self.old.bytes.now }
-        ensures home { self.new.bytes.ghost_name ≡ self.old.bytes.ghost_name }
-    {
+    #[tactic(auto, using(crate::proofs::Placed::bound))]
+    fn write(bytes: &mut [u8], c: u32, v: u32) {
         let at = place(c);
-        let mut i = width(c);
-        let mut left = v;
-        while i > 0 {
-            i -= 1;
-            self.bytes[at + i] = (left % 256) as u8;
-            left /= 256;
-        }
+        let n = width(c);
+        bytes[at..at + n].copy_from_slice(&v.to_be_bytes()[4 - n..]);
     }
 }
 
-impl<'a> Store for ImageStore<'a> {
-    ghost cells = { λ s. image_cells s.bytes.now };
-
-    ghost memory = { λ s. image_memory s.bytes.now (s.bytes.ghost_name ∷ []) };
-
-    ghost laws = { image_laws (λ s. s.bytes.now) (λ s. s.bytes.ghost_name ∷ []) };
-
-    fn size(&self) -> u32 {
-        count_cells(self.bytes)
-    }
-
-    fn get(&self, c: u32) -> Result<u32, Refusal> {
-        if !self.has(c) {
-            return Err(Refusal::NoCell);
-        }
-        Ok(read_cell(self.bytes, c))
-    }
-
-    fn put(&mut self, c: u32, v: u32) -> Result<(), Refusal> {
-        if !self.has(c) {
-            return Err(Refusal::NoCell);
-        }
-        if !holds(c, v) {
-            return Err(Refusal::BadValue);
-        }
-        self.write(c, v);
-        Ok(())
-    }
+// What a cell holds.
+#[tactic(auto, using(crate::proofs::Placed::bound))]
+pub(crate) fn read_cell(bytes: &[u8], c: u32) -> u32
+    requires { c < length (image_cells bytes.now) }
+    ensures { result ≡ slice_index (image_cells bytes.now) c }
+{
+    let at = place(c);
+    let n = width(c);
+    let mut number = [0; 4];
+    number[4 - n..].copy_from_slice(&bytes[at..at + n]);
+    u32::from_be_bytes(number)
 }

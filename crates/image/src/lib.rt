@@ -1,12 +1,8 @@
 // The image: cells in sequence at the layout's widths in lent bytes, and the way from bytes to cells and back.
 #![tactic(auto)]
 
-mod bytes;
 mod codec;
 mod image;
-mod lent;
-mod numbers;
 
 pub use codec::{decode, encode};
-pub use image::ImageStore;
-pub use lent::put_in_bytes;
+pub use image::{Image, ImageStore};

@@ -1,3 +1,2 @@
 pub mod Fronts
 pub mod Puts
-pub mod Turns

@@ -4,7 +4,8 @@ use Rattle.layout.proofs.Fields.{range_fits, width_most}
 use Rattle.layout.specs.Layout.{cell_count, in_range, width}
 use Rattle.std.proofs.lemmas.List.{length-take}
 use Rattle.store.specs.Cells.{StoreLaws}
-use Rattle.store.specs.Words.{word_cells, word_memory}
+use Rattle.store.specs.Formats.{FormatLaws}
+use Rattle.store.specs.Words.{word_cells, word_width}
 use Rattle.std.proofs.Math.Nat.{pow-le-pow_right}
 use Rattle.std.proofs.Common.{arith}
 
@@ -16,10 +17,18 @@ wider u w h = let z : 0 < 256 = omega arith in pow-le-pow_right {n = 256} z h
 pub range_held : (c v w : ℕ) → width c ≤ w → in_range c v ≡ true → v < 256 ^ w
 range_held c v w h r = let l = range_fits c v r in let p = wider (width c) w h in omega arith
 
-pub word_laws : {S : Type 0} (words home : S → List ℕ) → StoreLaws (λ s. word_cells (words s)) (λ s. word_memory (words s) (home s))
+-- what a format keeps, the store in a memory of that format keeps
+pub lent_laws : {S U : Type 0} {cells : List U → List ℕ} {width : ℕ → ℕ} → FormatLaws cells width → (memory : S → List U) (rest home : S → List ℕ)
+    → StoreLaws (λ s. cells (memory s)) (λ s. record { width = width; rest = rest s; home = home s })
+lent_laws laws memory rest home = record {
+  few = λ s. laws.few (memory s);
+  wide = λ s. laws.wide;
+  range = λ s c v. range_held c v _ (laws.wide c);
+}
+
+pub word_laws : FormatLaws word_cells word_width
 unfolding word_cells
-word_laws words home = record {
-  few = λ s. omega (arith, length-take cell_count (words s));
-  wide = λ s. width_most;
-  range = λ s c v. range_held c v 4 (width_most c);
+word_laws = record {
+  few = λ ws. omega (arith, length-take cell_count ws);
+  wide = width_most;
 }

@@ -1,4 +1,5 @@
 pub mod Cells
 pub mod Entries
+pub mod Formats
 pub mod Laws
 pub mod Words

@@ -1,7 +1,6 @@
 -- One cell in each 32-bit word of a memory, from its first on. Assumes nothing.
 use Rattle.std.specs.Prelude.{ℕ, ◌^◌, ◌<◌, List, take, drop, slice_index}
 use Rattle.layout.specs.Layout.{cell_count}
-use Rattle.store.specs.Cells.{Memory}
 
 -- as many as fit, at most the cells of the layout
 unfoldable pub word_cells : List ℕ → List ℕ
@@ -14,10 +13,6 @@ word_rest ws = drop cell_count ws
 -- a word has four bytes
 abbrev pub word_width : ℕ → ℕ
 word_width c = 4
-
--- what a memory of words at this place is beside its cells
-abbrev pub word_memory : List ℕ → List ℕ → Memory
-word_memory ws home = record { width = word_width; rest = word_rest ws; home = home }
 
 -- they are 32-bit words
 abbrev pub Words : List ℕ → Type 0

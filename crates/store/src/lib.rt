@@ -3,12 +3,14 @@
 
 mod entries;
 mod entry;
+mod format;
 mod lent;
 mod store;
 mod words;
 
 pub use entries::put_each;
 pub use entry::Entry;
-pub use lent::put_in_words;
+pub use format::Format;
+pub use lent::{LentStore, put_in};
 pub use store::Store;
-pub use words::WordStore;
+pub use words::{WordStore, Words, cells_in};

@@ -1,94 +1,63 @@
-ghost use Rattle.std.specs.Prelude.{◌≡◌, ℕ, ◌<◌, [], ◌∷◌, ◌++◌, length, slice_index, slice_set};
+ghost use Rattle.layout.specs.Layout.{cell_count};
+ghost use Rattle.std.specs.Prelude.{◌≡◌, ◌≤◌, ◌++◌, length};
 ghost use Rattle.store.specs.Laws.{word_laws};
-ghost use Rattle.store.specs.Words.{word_cells, word_memory, word_rest};
+ghost use Rattle.store.specs.Words.{Words as EachWord, word_cells, word_rest, word_width};
 
-use crate::store::Store;
+use crate::format::Format;
+use crate::lent::LentStore;
 use layout::CELLS;
-use refusal::Refusal;
 
-// One cell in each word of the memory lent to it.
-#[derive(Drop)]
-pub struct WordStore<'a> {
-    words: &'a mut [u32],
-}
+// One cell in each word of a memory.
+pub enum Words {}
 
-impl<'a> WordStore<'a> {
-    pub fn new(words: &'a mut [u32]) -> WordStore<'a>
-        ensures answer { result.words.now ≡ words.old }
-        ensures home { result.words.ghost_name ≡ words.entry.ghost_name }
-    {
-        WordStore { words }
+pub type WordStore<'a> = LentStore<'a, Words>;
+
+impl Format for Words {
+    type Unit = u32;
+
+    ghost cells = { word_cells };
+
+    ghost rest = { word_rest };
+
+    ghost width = { word_width };
+
+    ghost made = { λ cs rest. cs ++ rest };
+
+    ghost Held = { EachWord };
+
+    ghost laws = { word_laws };
+
+    #[tactic(auto, using(crate::proofs::Fronts::front_whole))]
+    fn known(_memory: &[u32]) {}
+
+    fn count(memory: &[u32]) -> u32 {
+        cells_in(memory).len() as u32
     }
 
-    // Hands the memory back: the cells, and what lies past them.
-    pub fn into_words(self) -> &'a mut [u32]
-        ensures same { result.now ≡ self.entry.words.now }
-        ensures memory { result.now ≡ word_cells self.entry.words.now ++ word_rest self.entry.words.now }
-        ensures home { result.ghost_name ≡ self.entry.words.ghost_name }
-    {
-        self.taken_apart()
+    fn has(memory: &[u32], c: u32) -> bool {
+        (c as usize) < cells_in(memory).len()
     }
 
-    fn taken_apart(self) -> &'a mut [u32]
-        ensures answer { result.now ≡ self.entry.words.now }
-        ensures home { result.ghost_name ≡ self.entry.words.ghost_name }
-    {
-        let WordStore { words } = self;
-        words
+    fn read(memory: &[u32], c: u32) -> Option<u32> {
+        cells_in(memory).get(c as usize).copied()
     }
 
-    fn write(&mut self, c: u32, v: u32)
-        requires { c < length (word_cells self.old.words.now) }
-        ensures after { word_cells self.new.words.now ≡ slice_set (word_cells self.old.words.now) c v }
-        ensures memory { word_rest self.new.words.now ≡ word_rest self.old.words.now }
-        ensures home { self.new.words.ghost_name ≡ self.old.words.ghost_name }
-    {
-        self.words[c as usize] = v;
-    }
-}
-
-impl<'a> Store for WordStore<'a> {
-    ghost cells = { λ s. word_cells s.words.now };
-
-    ghost memory = { λ s. word_memory s.words.now (s.words.ghost_name ∷ []) };
-
-    ghost laws = { word_laws (λ s. s.words.now) (λ s. s.words.ghost_name ∷ []) };
-
-    fn size(&self) -> u32 {
-        count_words(self.words)
+    // A word holds every value.
+    fn holds(_c: u32, _v: u32) -> bool {
+        true
     }
 
-    fn get(&self, c: u32) -> Result<u32, Refusal> {
-        if c >= self.size() {
-            return Err(Refusal::NoCell);
-        }
-        Ok(read_word(self.words, c))
-    }
-
-    // A word holds every value, so none is refused.
-    fn put(&mut self, c: u32, v: u32) -> Result<(), Refusal> {
-        if c >= self.size() {
-            return Err(Refusal::NoCell);
-        }
-        self.write(c, v);
-        Ok(())
+    #[tactic(auto, using(crate::proofs::Fronts::fronts))]
+    fn write(memory: &mut [u32], c: u32, v: u32) {
+        memory[c as usize] = v;
     }
 }
 
-// The number of cells.
-pub(crate) fn count_words(words: &[u32]) -> u32
-    ensures { result ≡ length (word_cells words.now) }
+// The words that are cells.
+#[tactic(auto, using(std::proofs::lemmas::List::take_min), unfolding(crate::specs::Words::word_cells))]
+pub fn cells_in(memory: &[u32]) -> &[u32]
+    ensures answer { result.now ≡ word_cells memory.now }
+    ensures few { length result.now ≤ cell_count }
 {
-    if words.len() < CELLS as usize {
-        words.len() as u32
-    } else {
-        CELLS
-    }
-}
-
-pub(crate) fn read_word(words: &[u32], c: u32) -> u32
-    requires { c < length (word_cells words.now) }
-    ensures { result ≡ slice_index (word_cells words.now) c }
-{
-    words[c as usize]
+    &memory[..(CELLS as usize).min(memory.len())]
 }

@@ -1,6 +1,6 @@
-use image::put_in_bytes;
+use image::Image;
 use std::test::Fail;
-use store::{Entry, put_in_words};
+use store::{Entry, Words, put_in};
 
 fn entry(cell: u32, value: u32) -> Entry {
     Entry { cell, value }
@@ -23,21 +23,21 @@ fn bytes_past_the_last_cell(rt: HostRuntime) {
         entry(705, 9),
         entry(706, 9),
     ];
-    assert!(rt; put_in_bytes(&mut memory, &entries).is_err());
+    assert!(rt; put_in::<Image>(&mut memory, &entries).is_err());
     assert_eq!(rt; ends(&memory), Some((1, 7, 9, 7)));
 }
 
 #[test]
 fn a_cut_cell_is_not_written(rt: HostRuntime) {
     let mut memory = [7; 8];
-    assert!(rt; put_in_bytes(&mut memory, &[entry(3, 5), entry(4, 0)]).is_err());
+    assert!(rt; put_in::<Image>(&mut memory, &[entry(3, 5), entry(4, 0)]).is_err());
     assert_eq!(rt; memory, [7, 7, 7, 7, 7, 7, 7, 5]);
 }
 
 #[test]
 fn words_past_the_last_cell(rt: HostRuntime) -> Result<(), Fail> {
     let mut memory = [7; 707];
-    assert!(rt; put_in_words(&mut memory, &[entry(705, 256), entry(706, 9)]).is_err());
+    assert!(rt; put_in::<Words>(&mut memory, &[entry(705, 256), entry(706, 9)]).is_err());
     match &memory[..] {
         [.., before, last, behind] => {
             assert_eq!(rt; (*before, *last, *behind), (7, 256, 7));
