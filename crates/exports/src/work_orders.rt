@@ -12,7 +12,7 @@ pub(crate) fn rule_of(why: Refusal) -> u8
     ensures { result ≡ rule_of why }
 {
     match why {
-        Refusal::Inconsistent { rule, cell: _ } => rule,
+        Refusal::Inconsistent { rule, cell: _ } => rule.number(),
         _ => 0,
     }
 }
