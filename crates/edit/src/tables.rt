@@ -7,10 +7,7 @@ use store::Store;
 fn cell_or_zero<S: Store>(store: &S, c: u32) -> u32
     ensures { result ≡ slice_index (S.cells store.now) c }
 {
-    match store.get(c) {
-        Ok(v) => v,
-        Err(_) => 0,
-    }
+    store.get(c).unwrap_or(0)
 }
 
 // A store's cells, copied; a cell past the size reads 0.
@@ -18,8 +15,8 @@ pub fn copied<S: Store>(store: &S) -> [u32; 706]
     ensures { reading result ≡ reading (S.cells store.now) }
 {
     let mut t = [0u32; 706];
-    for c in 0..706usize {
-        t[c] = cell_or_zero(store, c as u32);
+    for (c, cell) in t.iter_mut().enumerate() {
+        *cell = cell_or_zero(store, c as u32);
     }
     t
 }
