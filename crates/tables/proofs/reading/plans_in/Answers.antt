@@ -3,17 +3,17 @@ use Rattle.std.proofs.lemmas.List.{map-set, length-map, length-set}
 use Rattle.std.proofs.lemmas.List.Edits.{fill_by_more}
 use Rattle.std.proofs.lemmas.List.FromFn.{fill_by_all}
 use Rattle.tables.specs.Cells.{cell_at, plan_at, plans_at}
-use Rattle.tables.specs.Filled.{events_in}
-use Rattle.tables.specs.declared.plan.DayPlan.{DayPlan}
+use Rattle.tables.specs.Filled.{things_in}
+use Rattle.tables.specs.declared.list.Listed.{Listed}
 use Rattle.tables.specs.declared.event.Event.{Event}
 use Rattle.tables.proofs.reading.plans_in.Goals as goal
 
-module _ (f : ℕ → List Event) (plans : List DayPlan) (p : ℕ) where
-  more : (d : DayPlan) → p < length plans → events_in d ≡ f p → ((k : ℕ) → k < p → get_or (map events_in plans) k [] ≡ f k)
-      → (k : ℕ) → k < p + 1 → get_or (map events_in (set plans p d)) k [] ≡ f k
+module _ (f : ℕ → List Event) (plans : List (Listed Event 12)) (p : ℕ) where
+  more : (d : Listed Event 12) → p < length plans → things_in d ≡ f p → ((k : ℕ) → k < p → get_or (map things_in plans) k [] ≡ f k)
+      → (k : ℕ) → k < p + 1 → get_or (map things_in (set plans p d)) k [] ≡ f k
   more d h e before = λ k l.
-      let n : p < length (map events_in plans) = simp length-map h in
-      rw (map-set events_in plans p d, e) (fill_by_more f (map events_in plans) p [] n before k l)
+      let n : p < length (map things_in plans) = simp length-map h in
+      rw (map-set things_in plans p d, e) (fill_by_more f (map things_in plans) p [] n before k l)
 
 pub loop-p-preserved : goal.loop-p-preserved
 loop-p-preserved c =
@@ -25,5 +25,5 @@ loop-p-preserved c =
 pub returns : goal.returns
 unfolding plans_at
 returns c =
-    fill_by_all (plan_at (cell_at c.args.cells.now)) (map events_in c.loop-p.plans) 17 []
+    fill_by_all (plan_at (cell_at c.args.cells.now)) (map things_in c.loop-p.plans) 17 []
     (simp length-map c.loop-p.invariant.0) (λ k l. c.loop-p.invariant.1 k (omega arith))
