@@ -3,44 +3,23 @@ use Rattle.std.proofs.Common.{◌≡◌, ℕ, ◌+◌, ◌-◌, ◌<◌, ◌≤�
 use Rattle.std.proofs.iter.Yields.{nat_range_steps}
 use Rattle.std.proofs.iter.runs.Sources.{nat_range_inclusive_steps, inclusive_listed}
 use Rattle.std.proofs.lemmas.Iterator.{YieldsList, YieldsList-from_range}
-use Rattle.std.proofs.lemmas.Iterator.Consumers.{YieldsList-from_shown}
 use Rattle.std.proofs.lemmas.Bool.{cases_eq}
 use Rattle.std.proofs.lemmas.Option.{same_Some}
-use Rattle.std.proofs.lemmas.List.FromFn.{length-range_with_len}
 use Rattle.std.specs.Fn.{Mut, Called}
 use Rattle.std.specs.Iterator.Runs.{Run, SomeRun, AllItemsGive, IsFirstToGive, CallKeepsClosure}
 use Rattle.std.specs.List.{range_with_len}
 use Rattle.std.specs.Option.{MatchOption, IfSome, IsSomeAnd, option_map, option_or}
-use Rattle.std.specs.Range.{range_inclusive_start, range_inclusive_end, range_inclusive_exhausted, range_inclusive_len}
+use Rattle.std.specs.Range.{range_inclusive_start, range_inclusive_end, range_inclusive_exhausted}
 use Rattle.std.specs.declared.ops.Range.{Range}
 use Rattle.std.specs.declared.ops.RangeInclusive.{RangeInclusive}
+use Rattle.layout.proofs.Ranges.{inclusive as list_of_range}
 use Rattle.checks.specs.Words.{numbers}
-
--- how many numbers are left of a range
-abbrev left : RangeInclusive ℕ → ℕ
-left s = range_inclusive_len (λ x y. y - x) (range_inclusive_start s) (range_inclusive_end s) (range_inclusive_exhausted s)
-
-rest : (t : RangeInclusive ℕ) (m : ℕ) (b : Bool) → range_inclusive_exhausted t ≡ b → (range_inclusive_exhausted t ≡ false → range_inclusive_start t ≡ m) → range_with_len m (left t) ≡ range_with_len (range_inclusive_start t) (left t)
-rest t m true e h =
-    let z : left t ≡ 0 = ap (range_inclusive_len (λ x y. y - x) (range_inclusive_start t) (range_inclusive_end t)) e in
-    ap (range_with_len m) z ∙ sym (ap (range_with_len (range_inclusive_start t)) z)
-rest t m false e h = ap (λ (k : ℕ). range_with_len k (left t)) (sym (h e))
-
-go : (s : RangeInclusive ℕ) (x : ℕ) (t : RangeInclusive ℕ) → nat_range_inclusive_steps s (Some x) t → range_with_len (range_inclusive_start s) (left s) ≡ x ∷ range_with_len (range_inclusive_start t) (left t)
-go s x t h =
-    let n : left s ≡ suc (left t) = omega (arith, h.1.1) in
-    ap (range_with_len (range_inclusive_start s)) n
-    ∙ ap₂ ◌∷◌ (sym h.1.0) (rest t (range_inclusive_start s + 1) (range_inclusive_exhausted t) refl h.1.2)
 
 -- a fresh range of a to b yields those numbers
 pub inclusive : {s : RangeInclusive ℕ} (a b n : ℕ) → range_inclusive_start s ≡ a → range_inclusive_end s ≡ b → range_inclusive_exhausted s ≡ false → b + 1 - a ≡ n
     → YieldsList nat_range_inclusive_steps (λ x. x) s (numbers a n)
 unfolding numbers
-inclusive {s} a b n ea eb ex e =
-    let z : left s ≡ range_inclusive_end s + 1 - range_inclusive_start s = omega (arith, ap (range_inclusive_len (λ x y. y - x) (range_inclusive_start s) (range_inclusive_end s)) ex) in
-    let many : left s ≡ n = omega arith in
-    subst (YieldsList nat_range_inclusive_steps (λ x. x) s) (ap₂ range_with_len ea many)
-    (YieldsList-from_shown nat_range_inclusive_steps (λ x. x) (λ r. range_with_len (range_inclusive_start r) (left r)) (λ r t h. length-range_with_len (range_inclusive_start r) (left r) ∙ h.1.0) go s)
+inclusive a b n start end fresh e = list_of_range a b n start end fresh e
 
 pub exclusive : {s : Range ℕ} (a b n : ℕ) → s ≡ record { start = a; end = b } → b - a ≡ n → YieldsList nat_range_steps (λ x. x) s (numbers a n)
 unfolding numbers
