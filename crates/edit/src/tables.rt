@@ -1,6 +1,7 @@
 ghost use Rattle.checks.specs.Words.{reading};
 ghost use Rattle.std.specs.Prelude.{◌≡◌, slice_index};
 
+use std::array;
 use store::Store;
 
 // A cell, or 0 past the size.
@@ -14,9 +15,5 @@ fn cell_or_zero<S: Store>(store: &S, c: u32) -> u32
 pub fn copied<S: Store>(store: &S) -> [u32; 706]
     ensures { reading result ≡ reading (S.cells store.now) }
 {
-    let mut t = [0u32; 706];
-    for (c, cell) in t.iter_mut().enumerate() {
-        *cell = cell_or_zero(store, c as u32);
-    }
-    t
+    array::from_fn(|c| cell_or_zero(store, c as u32))
 }

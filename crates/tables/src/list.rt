@@ -1,4 +1,4 @@
-ghost use Rattle.std.specs.Prelude.{◌≤◌};
+ghost use Rattle.std.specs.Prelude.{◌≡◌, ◌≤◌};
 
 use crate::event::Event;
 use crate::row::Row;
@@ -13,6 +13,8 @@ pub struct Listed<T, const N: usize> {
 }
 
 impl<T: Copy, const N: usize> Clone for Listed<T, N> {
+    ghost is_clone = { λ list copy. copy ≡ list };
+
     fn clone(&self) -> Result<Listed<T, N>, AllocError> {
         Ok(*self)
     }

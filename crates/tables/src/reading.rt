@@ -11,6 +11,7 @@ use crate::row::Row;
 use crate::tables::Tables;
 use keeper::Counts;
 use layout::{event_cell, event_counts, row_cell};
+use std::array;
 
 // What stands in the free places of a list.
 const NO_ROW: Row = Row {
@@ -157,11 +158,7 @@ fn offset_of(zone: u32) -> i32
 fn plans_in(cells: &[u32]) -> [DayPlan; 17]
     ensures { map things_in result ≡ plans_at (cell_at cells.now) }
 {
-    let mut plans = [DayPlan::new(NO_EVENT); 17];
-    for p in 0..17u8 {
-        plans[p as usize] = plan_in(cells, p);
-    }
-    plans
+    array::from_fn(|plan| plan_in(cells, plan as u8))
 }
 
 impl Tables {
