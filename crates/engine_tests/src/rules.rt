@@ -34,8 +34,14 @@ fn first_fault_wins(rt: HostRuntime) {
     ];
     let mut answers = [Answer::Done; 13];
     lives(&mut words, &calls, &mut answers);
-    assert_eq!(rt; (answers[1], answers[3]), (fault(Rule::CellInRange, 705), fault(Rule::RowWhole, 10)));
-    assert_eq!(rt; (answers[5], answers[7]), (fault(Rule::RowServed, 6), fault(Rule::StartAlone, 133)));
+    assert_eq!(rt;
+        (answers[1], answers[3]),
+        (fault(Rule::CellInRange, 705), fault(Rule::RowWhole, 10))
+    );
+    assert_eq!(rt;
+        (answers[5], answers[7]),
+        (fault(Rule::RowServed, 6), fault(Rule::StartAlone, 133))
+    );
     assert_eq!(rt; (answers[9], answers[10]), (Answer::Done, Answer::Done));
     assert_eq!(rt; answers[11], Answer::Cell(1));
 }
