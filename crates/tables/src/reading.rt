@@ -40,6 +40,7 @@ fn numbered_in<T: Copy, const N: usize, F: Fn(u8) -> Option<T>>(blank: T, at: F)
     ensures { (there : ℕ → Option T) → ((k : ℕ) (thing : Option T) → F.post at k thing → thing ≡ there k) → things_in result ≡ numbered there N }
 {
     let mut things = Listed::new(blank);
+    // a loop, since over `filter_map(at)` the goal `push-requires` stayed open
     for before in 0..N as u8 {
         if let Some(thing) = at(before + 1) {
             things.push(thing);
