@@ -1,96 +1,84 @@
--- The first that fails, and whether one passes, counted through.
-use Rattle.layout.specs.Layout.{event_count}
-use Rattle.std.proofs.Common.{◌≡◌, ℕ, zero, suc, ◌+◌, ◌-◌, ◌<◌, ◌≤◌, Bool, true, false, cond, List, [], ◌∷◌, ◌++◌, map, length, get_or, Some, None, Option, refl, ap, ◌∙◌, arith}
-use Rattle.checks.specs.Words.{numbers, first_failing, some, map_option, IsFirst}
-use Rattle.checks.specs.Rules.{event_places}
+-- The first place of some that does not keep its rule, and its fault.
+use Rattle.std.proofs.Common.{◌≡◌, ℕ, zero, suc, ◌+◌, ◌<◌, Bool, true, false, not, cond, List, [], ◌∷◌, ◌++◌, map, length, get_or, Some, None, Option, sym, refl, ap, ◌∙◌, arith}
+use Rattle.std.specs.List.{find}
+use Rattle.std.specs.Option.{MatchOption, IsSomeAnd, option_map, option_or}
+use Rattle.std.proofs.lemmas.List.Folds.{find-append, list_any_none}
+use Rattle.std.proofs.lemmas.List.{get_or_past}
+use Rattle.checks.specs.declared.fault.Fault.{Fault}
+use Rattle.layout.specs.Layout.{event_cell, event_count, plan_count}
+use Rattle.checks.specs.Words.{first_failing, numbers, reading, IsFirst}
+use Rattle.checks.specs.Rules.{Place, good, named, cell_places, row_places, plan_places, event_places, first_fault, counts, plan_counts}
 use Rattle.checks.specs.Rules.Place.{event_at}
+use Rattle.checks.proofs.Numbers.{first_some}
 
-numbers_suc : (a n : ℕ) → numbers a (suc n) ≡ a ∷ numbers (a + 1) n
-unfolding numbers
-numbers_suc a n = refl
+-- the fault of the first such place
+abbrev pub fault_among : (ℕ → ℕ) → List Place → Option Fault
+fault_among t ps = option_map named (first_failing (good t) ps)
 
-numbers_zero : (a : ℕ) → numbers a 0 ≡ []
-unfolding numbers
-numbers_zero a = refl
+module _ (t : ℕ → ℕ) (at : ℕ → Place) where
+  by : (b : Bool) (n : ℕ) (u : Option Place) (v : Option ℕ) → option_map named u ≡ option_map (λ n. named (at n)) v → option_map named (cond b (Some (at n)) u) ≡ option_map (λ n. named (at n)) (cond b (Some n) v)
+  by true n u v e = refl
+  by false n u v e = e
 
-pub numbers_left : (i b : ℕ) → i < b → numbers i (b - i) ≡ i ∷ numbers (i + 1) (b - (i + 1))
-numbers_left i b h =
-    let e : b - i ≡ suc (b - (i + 1)) = omega arith in
-    ap (numbers i) e ∙ numbers_suc i (b - (i + 1))
-
-pub numbers_end : (i b : ℕ) → b ≤ i → numbers i (b - i) ≡ []
-numbers_end i b h =
-    let e : b - i ≡ 0 = omega arith in
-    ap (numbers i) e ∙ numbers_zero i
-
-module _ {X : Type 0} (good : X → Bool) where
-  first_bad : (x : X) (xs : List X) → good x ≡ false → first_failing good (x ∷ xs) ≡ Some x
+  -- it is found by the numbers of the places
+  pub by_number : (ns : List ℕ) → fault_among t (map at ns) ≡ option_map (λ n. named (at n)) (find (λ n. not (good t (at n))) ns)
   unfolding first_failing
-  first_bad x xs h = rw h
+  by_number [] = refl
+  by_number (n ∷ ns) = by (not (good t (at n))) n _ _ (by_number ns)
 
-  first_good : (x : X) (xs : List X) → good x ≡ true → first_failing good (x ∷ xs) ≡ first_failing good xs
+  -- and named
+  pub named_by : (ns : List ℕ) (found : Option ℕ) (fault : Option Fault) (Post : ℕ → Fault → Type 0) → option_map (λ n. n) found ≡ find (λ n. not (good t (at n))) ns
+      → MatchOption found (fault ≡ None) (λ n. IsSomeAnd fault (Post n)) → ((n : ℕ) (f : Fault) → Post n f → f ≡ named (at n))
+      → fault ≡ fault_among t (map at ns)
+  named_by ns None fault Post e m p = m ∙ ap (option_map (λ n. named (at n))) e ∙ sym (by_number ns)
+  named_by ns (Some n) None Post e m p = absurd m
+  named_by ns (Some n) (Some f) Post e m p = ap Some (p n f m) ∙ ap (option_map (λ n. named (at n))) e ∙ sym (by_number ns)
+
+module _ (t : ℕ → ℕ) where
+  joined : (u v : Option Place) → option_map named (option_or u v) ≡ option_or (option_map named u) (option_map named v)
+  joined None v = refl
+  joined (Some p) v = refl
+
+  both : (ps qs : List Place) → fault_among t (ps ++ qs) ≡ option_or (fault_among t ps) (fault_among t qs)
   unfolding first_failing
-  first_good x xs h = rw h
+  both ps qs = ap (option_map named) (find-append (λ p. not (good t p)) ps qs) ∙ joined (first_failing (good t) ps) (first_failing (good t) qs)
 
-  first_none : first_failing good [] ≡ None
-  unfolding first_failing
-  first_none = refl
+  pub events_by_plan : (ns : List ℕ) → fault_among t (event_places ns) ≡ first_some (λ p. fault_among t (map (event_at p) (numbers 1 event_count))) ns
+  unfolding event_places first_failing
+  events_by_plan [] = refl
+  events_by_plan (p ∷ ps) =
+      both (map (event_at p) (numbers 1 event_count)) (event_places ps)
+      ∙ ap (option_or (fault_among t (map (event_at p) (numbers 1 event_count)))) (events_by_plan ps)
 
-  some_here : (x : X) (xs : List X) → good x ≡ true → some good (x ∷ xs) ≡ true
-  unfolding some
-  some_here x xs h = rw h
+  -- `or_else`, whose closure finds d
+  pub or_found : (a b d : Option Fault) (P : Type 0) → MatchOption a P (λ x. b ≡ Some x) → (P → b ≡ d) → MatchOption a (b ≡ d) (λ x. b ≡ Some x)
+  or_found None b d P m f = f m
+  or_found (Some x) b d P m f = m
 
-  some_past : (x : X) (xs : List X) → good x ≡ false → some good (x ∷ xs) ≡ some good xs
-  unfolding some
-  some_past x xs h = rw h
+  -- the first of two, if it is there
+  next : (a b c d : Option Fault) → a ≡ c → MatchOption a (b ≡ d) (λ x. b ≡ Some x) → b ≡ option_or c d
+  next None b c d e m = m ∙ ap (λ (o : Option Fault). option_or o d) e
+  next (Some x) b c d e m = m ∙ ap (λ (o : Option Fault). option_or o d) e
 
-  some_none : some good [] ≡ false
-  unfolding some
-  some_none = refl
+  grouped : (a b c d : Option Fault) → option_or (option_or (option_or a b) c) d ≡ option_or a (option_or b (option_or c d))
+  grouped None None c d = refl
+  grouped None (Some x) c d = refl
+  grouped (Some x) b c d = refl
 
-  module _ (f : ℕ → X) (i b : ℕ) where
-    pub fails_here : i < b → good (f i) ≡ false → first_failing good (map f (numbers i (b - i))) ≡ Some (f i)
-    fails_here h e = ap (λ (ns : List ℕ). first_failing good (map f ns)) (numbers_left i b h) ∙ first_bad (f i) _ e
-
-    pub fails_later : i < b → good (f i) ≡ true → first_failing good (map f (numbers i (b - i))) ≡ first_failing good (map f (numbers (i + 1) (b - (i + 1))))
-    fails_later h e = ap (λ (ns : List ℕ). first_failing good (map f ns)) (numbers_left i b h) ∙ first_good (f i) _ e
-
-    pub fails_never : b ≤ i → first_failing good (map f (numbers i (b - i))) ≡ None
-    fails_never h = ap (λ (ns : List ℕ). first_failing good (map f ns)) (numbers_end i b h) ∙ first_none
-
-module _ (test : ℕ → Bool) (i b : ℕ) where
-  pub passes_here : i < b → test i ≡ true → some test (numbers i (b - i)) ≡ true
-  passes_here h e = ap (some test) (numbers_left i b h) ∙ some_here test i _ e
-
-  pub passes_later : i < b → test i ≡ false → some test (numbers i (b - i)) ≡ some test (numbers (i + 1) (b - (i + 1)))
-  passes_later h e = ap (some test) (numbers_left i b h) ∙ some_past test i _ e
-
-  pub passes_never : b ≤ i → some test (numbers i (b - i)) ≡ false
-  passes_never h = ap (some test) (numbers_end i b h) ∙ some_none test
-
--- the first of two, if it is there
-abbrev pub or_else : {Y : Type 0} → Option Y → Option Y → Option Y
-or_else (Some y) o = Some y
-or_else None o = o
-
-module _ {X Y : Type 0} (f : X → Y) (good : X → Bool) where
-  -- the first of two lists in sequence
-  join : (b : Bool) (x : X) (u v w : Option X) → map_option f u ≡ or_else (map_option f v) (map_option f w) → map_option f (cond b u (Some x)) ≡ or_else (map_option f (cond b v (Some x))) (map_option f w)
-  join true x u v w e = e
-  join false x u v w e = refl
-
-  pub first_both : (xs ys : List X) → map_option f (first_failing good (xs ++ ys)) ≡ or_else (map_option f (first_failing good xs)) (map_option f (first_failing good ys))
-  unfolding first_failing
-  first_both [] ys = refl
-  first_both (x ∷ xs) ys = join (good x) x (first_failing good (xs ++ ys)) (first_failing good xs) (first_failing good ys) (first_both xs ys)
-
-pub events_left : (i b : ℕ) → i < b → event_places (numbers i (b - i)) ≡ map (event_at i) (numbers 1 event_count) ++ event_places (numbers (i + 1) (b - (i + 1)))
-unfolding event_places
-events_left i b h = ap event_places (numbers_left i b h)
-
-pub events_end : (i b : ℕ) → b ≤ i → event_places (numbers i (b - i)) ≡ []
-unfolding event_places
-events_end i b h = ap event_places (numbers_end i b h)
+  -- rule by rule
+  pub rule_by_rule : (a b c d : Option Fault) → a ≡ fault_among t cell_places → MatchOption a (b ≡ fault_among t row_places) (λ x. b ≡ Some x)
+      → MatchOption b (c ≡ fault_among t plan_places) (λ x. c ≡ Some x)
+      → MatchOption c (d ≡ fault_among t (event_places (numbers 1 plan_count))) (λ x. d ≡ Some x) → d ≡ first_fault t
+  unfolding first_fault
+  rule_by_rule a b c d e f g h =
+      let events : List Place = event_places (numbers 1 plan_count) in
+      let cells = fault_among t cell_places in
+      let rows = fault_among t row_places in
+      let plans = fault_among t plan_places in
+      let last = fault_among t events in
+      next c d (option_or (option_or cells rows) plans) last (next b c (option_or cells rows) plans (next a b cells rows e f) g) h
+      ∙ grouped cells rows plans last
+      ∙ sym (both cell_places (row_places ++ (plan_places ++ events)) ∙ ap (option_or cells) (both row_places (plan_places ++ events) ∙ ap (option_or rows) (both plan_places events)))
 
 module _ {X : Type 0} (good : X → Bool) where
   all_more : (x : X) (xs : List X) → good x ≡ true → ((j : ℕ) (d : X) → j < length xs → good (get_or xs j d) ≡ true) → (j : ℕ) (d : X) → j < suc (length xs) → good (get_or (x ∷ xs) j d) ≡ true
@@ -111,7 +99,7 @@ module _ {X : Type 0} (good : X → Bool) where
     before = before_more x y xs i.at h i.before;
   }
 
-  first_at_lem : (x : X) (xs : List X) (b : Bool) → good x ≡ b → IsFirst good xs (first_failing good xs) → IsFirst good (x ∷ xs) (cond b (first_failing good xs) (Some x))
+  first_at_lem : (x : X) (xs : List X) (b : Bool) → good x ≡ b → IsFirst good xs (first_failing good xs) → IsFirst good (x ∷ xs) (cond (not b) (Some x) (first_failing good xs))
   first_at_lem x xs true h i = later x xs (first_failing good xs) h i
   first_at_lem x xs false h i = record { at = 0; within = omega arith; here = refl; fails = h; before = λ j l. absurd (omega arith) }
 
@@ -119,3 +107,11 @@ module _ {X : Type 0} (good : X → Bool) where
   unfolding first_failing
   first_means [] = λ j d l. absurd (omega arith)
   first_means (x ∷ xs) = first_at_lem x xs (good x) refl (first_means xs)
+
+-- past the last plan no event counts, since there are no cells
+pub none_past : (cells : List ℕ) (p : ℕ) → length cells ≡ 706 → 16 < p → plan_counts (reading cells) p ≡ false
+unfolding plan_counts
+none_past cells p l h =
+    let none : (e : ℕ) → counts (reading cells) p e ≡ false = λ e.
+    rw (get_or_past cells (event_cell p e) 0 (omega arith), get_or_past cells (event_cell p e + 1) 0 (omega arith), get_or_past cells (event_cell p e + 2) 0 (omega arith)) refl
+    in list_any_none (counts (reading cells) p) (numbers 1 event_count) (λ k d b. none _)

@@ -1,8 +1,13 @@
 -- The rules that committed tables keep, and the first fault of some tables. Assumes nothing.
 use Rattle.std.specs.Prelude.{ℕ, ◌+◌, ◌-◌, Bool, not, ◌&&◌, ◌||◌, List, [], ◌∷◌, ◌++◌, map, Option, ◌==◌}
+use Rattle.std.specs.List.{list_any}
+use Rattle.std.specs.Option.{option_map}
 use Rattle.layout.specs.Layout.{in_range, row_cell, event_cell, event_counts, start_minute, cell_count, row_count, plan_count, event_count}
 use Rattle.checks.specs.declared.fault.Fault.{Fault}
-use Rattle.checks.specs.Words.{numbers, first_failing, some, map_option, IsFirst}
+use Rattle.checks.specs.Words.{numbers, first_failing, IsFirst}
+use Rattle.refusal.specs.declared.refusal.Refusal.{Refusal}
+use Rattle.refusal.specs.declared.refusal.Refusal.TheVariants.{Inconsistent}
+use Rattle.refusal.specs.declared.rule.Rule.TheVariants.{CellInRange, RowWhole, RowServed, StartAlone}
 
 -- the tables: what is read in each cell
 module _ (t : ℕ → ℕ) where
@@ -28,7 +33,7 @@ module _ (t : ℕ → ℕ) where
 
   -- a plan has a counting event
   unfoldable pub plan_counts : ℕ → Bool
-  plan_counts p = some (counts p) (numbers 1 event_count)
+  plan_counts p = list_any (counts p) (numbers 1 event_count)
 
   -- rule 3: a row's plan is 0 or has a counting event
   abbrev pub row_served : ℕ → Bool
@@ -40,7 +45,7 @@ module _ (t : ℕ → ℕ) where
 
   -- an earlier counting event of the plan starts in the same minute
   unfoldable pub starts_twice : ℕ → ℕ → Bool
-  starts_twice p e = some (clashes p e) (numbers 1 (e - 1))
+  starts_twice p e = list_any (clashes p e) (numbers 1 (e - 1))
 
   -- rule 4: an event that counts starts in a minute of its own
   abbrev pub starts_alone : ℕ → ℕ → Bool
@@ -62,10 +67,10 @@ good t (event_at p e) = starts_alone t p e
 
 -- the rule and the cell that are named where it is not good
 abbrev pub named : Place → Fault
-named (cell_at c) = record { rule = 1; cell = c }
-named (row_at r) = record { rule = 2; cell = row_cell r }
-named (plan_of r) = record { rule = 3; cell = row_cell r }
-named (event_at p e) = record { rule = 4; cell = event_cell p e }
+named (cell_at c) = record { rule = CellInRange; cell = c }
+named (row_at r) = record { rule = RowWhole; cell = row_cell r }
+named (plan_of r) = record { rule = RowServed; cell = row_cell r }
+named (event_at p e) = record { rule = StartAlone; cell = event_cell p e }
 
 abbrev pub cell_places : List Place
 cell_places = map cell_at (numbers 0 cell_count)
@@ -87,8 +92,12 @@ places = cell_places ++ (row_places ++ (plan_places ++ event_places (numbers 1 p
 
 -- the first fault of the tables, or none
 unfoldable pub first_fault : (ℕ → ℕ) → Option Fault
-first_fault t = map_option named (first_failing (good t) places)
+first_fault t = option_map named (first_failing (good t) places)
 
 -- what that means: the fault is of the first place, in their sequence, that is not good; with none, every place is good
 abbrev pub FirstPlace : (ℕ → ℕ) → Type 0
 FirstPlace t = IsFirst (good t) places (first_failing (good t) places)
+
+-- the refusal that names a fault
+abbrev pub refused_for : Fault → Refusal
+refused_for f = Inconsistent f.rule f.cell

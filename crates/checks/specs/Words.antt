@@ -1,6 +1,6 @@
 -- The first of a list that fails a test. Assumes nothing.
-use Rattle.std.specs.Prelude.{◌≡◌, ℕ, ◌<◌, Bool, true, false, cond, ◌||◌, List, [], ◌∷◌, length, get_or, Some, None, Option, slice_index, slice_index_or}
-use Rattle.std.specs.List.{range_with_len}
+use Rattle.std.specs.Prelude.{◌≡◌, ℕ, ◌<◌, Bool, true, false, not, List, length, get_or, Some, None, Option, slice_index, slice_index_or}
+use Rattle.std.specs.List.{find, range_with_len}
 
 -- n numbers from a on (kept shut, so that nothing writes it out)
 unfoldable pub numbers : ℕ → ℕ → List ℕ
@@ -8,17 +8,7 @@ numbers a n = range_with_len a n
 
 -- the first of a list that fails the test, or none
 unfoldable pub first_failing : {X : Type 0} → (X → Bool) → List X → Option X
-first_failing good [] = None
-first_failing good (x ∷ xs) = cond (good x) (first_failing good xs) (Some x)
-
--- one of the list passes the test
-unfoldable pub some : {X : Type 0} → (X → Bool) → List X → Bool
-some test [] = false
-some test (x ∷ xs) = test x || some test xs
-
-abbrev pub map_option : {X Y : Type 0} → (X → Y) → Option X → Option Y
-map_option f (Some x) = Some (f x)
-map_option f None = None
+first_failing good xs = find (λ x. not (good x)) xs
 
 -- a list of cells as it is read: 0 beyond its end
 abbrev pub reading : List ℕ → ℕ → ℕ

@@ -1,5 +1,6 @@
 -- What an edit means: the values recorded for cells, and its mark. Assumes nothing.
-use Rattle.std.specs.Prelude.{ℕ, suc, ◌^◌, ◌<◌, Bool, true, false, cond, List, [], ◌∷◌, ◌++◌, length, take, set, Ok, Err, fold, Result, ◌==◌, nat_lt, slice_index_or, slice_set}
+use Rattle.std.specs.Prelude.{ℕ, ◌^◌, ◌<◌, Bool, true, false, cond, List, [], ◌∷◌, ◌++◌, length, set, Ok, Err, fold, Result, ◌==◌, nat_lt, slice_index_or, slice_set}
+use Rattle.std.specs.List.{position_or_len}
 use Rattle.layout.specs.Layout.{in_range, width}
 use Rattle.refusal.specs.declared.refusal.Refusal.{Refusal}
 use Rattle.refusal.specs.declared.refusal.Refusal.TheVariants.{BadValue, EditFull}
@@ -13,14 +14,9 @@ pub record Draft : Type 0 where
   pub entries : List Entry
   pub marked : Bool
 
--- the first n entries of a table
-abbrev pub draft_at : ℕ → List Entry → Bool → Draft
-draft_at n table b = record { entries = take n table; marked = b }
-
 -- where the cell c stands, or the length
 abbrev pub place_in : List Entry → ℕ → ℕ
-place_in [] c = 0
-place_in (e ∷ es) c = cond (e.cell == c) 0 (suc (place_in es c))
+place_in es c = position_or_len (λ e. e.cell == c) es
 
 -- a value for the cell c, over an older one
 abbrev pub noted : List Entry → ℕ → ℕ → List Entry

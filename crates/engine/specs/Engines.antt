@@ -1,7 +1,8 @@
 -- What an engine stands for, and what its calls leave alone. Assumes nothing.
 use Rattle.std.specs.Prelude.{◌≡◌, ℕ, List, Some, None, Ok, Err, Option, Result}
 use Rattle.edit.specs.declared.edit.Edit.{Edit}
-use Rattle.edit.specs.Drafts.{Draft, draft_at}
+use Rattle.edit.specs.Drafts.{Draft}
+use Rattle.edit.specs.Edits.{draft_of}
 use Rattle.refusal.specs.declared.refusal.Refusal.{Refusal}
 use Rattle.store.specs.Cells.{Memory}
 use Rattle.engine.specs.declared.ticket.Ticket.{Ticket}
@@ -11,7 +12,7 @@ use Rattle.engine.specs.Book.{State}
 -- the edit that stands open, by its meaning
 abbrev pub drafted : Option Edit → Option Draft
 drafted None = None
-drafted (Some e) = Some (draft_at e.count e.table e.checked)
+drafted (Some e) = Some (draft_of e)
 
 -- what Open answers, tickets aside
 abbrev pub opened : Result Ticket Refusal → Result (Unit {0}) Refusal

@@ -52,10 +52,7 @@ impl<C: Clock, S: Store, R: SummerRule> Engine<C, S, R> {
             return Err(Refusal::NoEdit);
         };
         match edit.fault_in(&self.store) {
-            Some(fault) => Err(Refusal::Inconsistent {
-                rule: fault.rule,
-                cell: fault.cell,
-            }),
+            Some(fault) => Err(fault.into()),
             None => {
                 edit.mark();
                 self.edit = Some(edit);

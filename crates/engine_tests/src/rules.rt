@@ -1,8 +1,8 @@
 use crate::sample::{lives, two_tariffs};
 use history::{Answer, Call};
-use refusal::Refusal;
+use refusal::{Refusal, Rule};
 
-fn fault(rule: u8, cell: u32) -> Answer {
+fn fault(rule: Rule, cell: u32) -> Answer {
     Answer::Refused(Refusal::Inconsistent { rule, cell })
 }
 
@@ -34,8 +34,14 @@ fn first_fault_wins(rt: HostRuntime) {
     ];
     let mut answers = [Answer::Done; 13];
     lives(&mut words, &calls, &mut answers);
-    assert_eq!(rt; (answers[1], answers[3]), (fault(1, 705), fault(2, 10)));
-    assert_eq!(rt; (answers[5], answers[7]), (fault(3, 6), fault(4, 133)));
+    assert_eq!(rt;
+        (answers[1], answers[3]),
+        (fault(Rule::CellInRange, 705), fault(Rule::RowWhole, 10))
+    );
+    assert_eq!(rt;
+        (answers[5], answers[7]),
+        (fault(Rule::RowServed, 6), fault(Rule::StartAlone, 133))
+    );
     assert_eq!(rt; (answers[9], answers[10]), (Answer::Done, Answer::Done));
     assert_eq!(rt; answers[11], Answer::Cell(1));
 }

@@ -2,7 +2,7 @@ use crate::sample::{NO_EDIT, lives, two_tariffs};
 use clock::CounterClock;
 use engine::Engine;
 use history::{Answer, Call};
-use refusal::Refusal;
+use refusal::{Refusal, Rule};
 use runner::{Stopped, run};
 use store::WordStore;
 use summer::NoSummer;
@@ -43,7 +43,10 @@ fn refused_commands(rt: HostRuntime) {
     let no_cell = [0x01, 0x20, 0x10, 0x02, 0xC2, 0, 0, 0, 0, 0x40];
     assert_eq!(rt; run_alone(&no_cell), at(2, Refusal::NoCell));
     let clash = [0x01, 0x10, 0, 133, 0, 0, 0, 6, 0x20, 0x30];
-    let named = Refusal::Inconsistent { rule: 4, cell: 133 };
+    let named = Refusal::Inconsistent {
+        rule: Rule::StartAlone,
+        cell: 133,
+    };
     assert_eq!(rt; run_alone(&clash), at(8, named));
 }
 

@@ -4,7 +4,7 @@ use Rattle.engine.specs.Book.{State}
 use Rattle.runner.specs.declared.stopped.Stopped.{Stopped}
 use Rattle.refusal.specs.declared.refusal.Refusal.{Refusal}
 use Rattle.refusal.specs.declared.refusal.Refusal.TheVariants.{NoTime, TimeNotTaken, NoCell, BadValue, EditOpen, NoEdit, EditFull, Inconsistent, NotChecked, BadOrder, NoDate}
-use Rattle.refusal.specs.Refusals.{number_of}
+use Rattle.refusal.specs.Refusals.{number_of, number_of_rule}
 use Rattle.schedule.specs.Looks.{Rule}
 use Rattle.schedule.specs.declared.answer.Look.{Look}
 use Rattle.summer.specs.Laws.{america, europe}
@@ -48,7 +48,7 @@ fields_of l =
 
 -- the rule and the cell of a refusal; of others than 8 they are 0
 abbrev pub rule_of : Refusal → ℕ
-rule_of (Inconsistent r c) = r
+rule_of (Inconsistent r c) = number_of_rule r
 rule_of NoTime = 0
 rule_of TimeNotTaken = 0
 rule_of NoCell = 0

@@ -31,7 +31,7 @@ fn fault_of(why: Refusal) -> (u8, u32)
     ensures cell { result.1 ≡ cell_of why }
 {
     match why {
-        Refusal::Inconsistent { rule, cell } => (rule, cell),
+        Refusal::Inconsistent { rule, cell } => (rule.number(), cell),
         _ => (0, 0),
     }
 }

@@ -1,3 +1,4 @@
 pub mod Fields
 pub mod Masks
 pub mod Closed
+pub mod Ranges

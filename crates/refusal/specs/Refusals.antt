@@ -1,6 +1,8 @@
--- Each refusal with its number and its words. Assumes nothing.
+-- Each refusal with its number and its words, and each rule with its number. Assumes nothing.
 use Rattle.std.specs.Prelude.{ℕ, List, codes}
 use Rattle.refusal.specs.declared.refusal.Refusal.{Refusal}
+use Rattle.refusal.specs.declared.rule.Rule.{Rule}
+use Rattle.refusal.specs.declared.rule.Rule.TheVariants.{CellInRange, RowWhole, RowServed, StartAlone}
 use Rattle.refusal.specs.declared.refusal.Refusal.TheVariants.{NoTime, TimeNotTaken, NoCell, BadValue, EditOpen, NoEdit, EditFull, Inconsistent, NotChecked, BadOrder, NoDate}
 
 -- the number that a refused call returns
@@ -30,3 +32,10 @@ words_of (Inconsistent rule cell) = codes "inconsistent"
 words_of NotChecked = codes "not checked"
 words_of BadOrder = codes "bad order"
 words_of NoDate = codes "no date"
+
+-- the number of a rule
+abbrev pub number_of_rule : Rule → ℕ
+number_of_rule CellInRange = 1
+number_of_rule RowWhole = 2
+number_of_rule RowServed = 3
+number_of_rule StartAlone = 4

@@ -2,6 +2,8 @@
 #![tactic(auto)]
 
 mod refusal;
+mod rule;
 mod shown;
 
 pub use refusal::Refusal;
+pub use rule::Rule;

@@ -1,3 +1,5 @@
+use crate::rule::Rule;
+
 // Why a call was refused. A refused call changes nothing but what its own page says.
 #[derive(Clone, Copy, PartialEq, Eq, Debug)]
 pub enum Refusal {
@@ -16,7 +18,7 @@ pub enum Refusal {
     // a 65th different cell
     EditFull,
     // the tables would break a rule of the check, named with the cell
-    Inconsistent { rule: u8, cell: u32 },
+    Inconsistent { rule: Rule, cell: u32 },
     // a commit of an edit that was not checked since its last change
     NotChecked,
     // the bytes are not a work order

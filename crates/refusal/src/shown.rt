@@ -50,7 +50,7 @@ impl fmt::Display for Refusal {
         let words = self.words();
         match self {
             Refusal::Inconsistent { rule, cell } => {
-                let rule = *rule;
+                let rule = rule.number();
                 let cell = *cell;
                 write!(f, "{number} {words} (rule {rule}, cell {cell})")
             }

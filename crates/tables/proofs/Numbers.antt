@@ -1,7 +1,9 @@
--- One more number, where things have numbers from 1 on.
-use Rattle.std.proofs.Common.{◌≡◌, ℕ, suc, ◌+◌, true, false, cond, List, [], ◌∷◌, ◌++◌, Some, None, Option, sym, ap, ◌∙◌, add-one}
+-- One more number, where things have numbers from 1 on, and the bits of a mask counted.
+use Rattle.std.proofs.Common.{◌≡◌, ℕ, zero, suc, ◌+◌, Bool, true, false, cond, List, [], ◌∷◌, ◌++◌, map, length, Some, None, Option, sym, refl, ap, ap₂, ◌∙◌, add-one, arith, length-append}
+use mathlib.Core.List.{map-id}
+use Rattle.std.specs.List.{filter, range_with_len}
+use Rattle.std.proofs.lemmas.List.FromFn.{filter_of_map_range_with_len_more}
 use Rattle.std.proofs.lemmas.List.{append-nil}
-use Rattle.std.proofs.lemmas.Bool.{cond-true, cond-false}
 use Rattle.tables.specs.Numbered.{alone, numbered}
 use Rattle.tables.specs.Bits.{bit, bits_in}
 
@@ -16,12 +18,20 @@ module _ {X : Type 0} (at : ℕ → Option X) (n : ℕ) where
   pub number_left : (xs : List X) → None ≡ at (n + 1) → xs ≡ numbered at n → xs ≡ numbered at (n + 1)
   number_left xs h e = rw (e, one_more, ← h) (sym (append-nil (numbered at n)))
 
-bits_more : (n mask : ℕ) → bits_in (n + 1) mask ≡ bits_in n mask + cond (bit mask (n + 1)) 1 0
-unfolding bits_in
-bits_more n mask = let e : n + 1 ≡ suc n = add-one n in rw e
+-- the bits that are set, counted
+module _ (mask : ℕ) where
+  counted : (n : ℕ) → length (filter (bit mask) (map (λ (k : ℕ). k) (range_with_len 1 n))) ≡ bits_in n mask
+  unfolding bits_in
+  counted zero = refl
+  counted (suc n) =
+      let e : suc n ≡ n + 1 = sym (add-one n) in
+      let more = filter_of_map_range_with_len_more (bit mask) (λ (k : ℕ). k) 1 n (suc n) (omega arith) in
+      ap (λ (m : ℕ). length (filter (bit mask) (map (λ (k : ℕ). k) (range_with_len 1 m)))) e ∙ ap length more
+      ∙ length-append _ (cond (bit mask (suc n)) (suc n ∷ []) []) ∙ ap₂ ◌+◌ (counted n) (one (bit mask (suc n)))
+    where
+      one : (b : Bool) → length (cond b (suc n ∷ []) []) ≡ cond b 1 0
+      one true = refl
+      one false = refl
 
-pub bit_taken : (n mask : ℕ) → true ≡ bit mask (n + 1) → bits_in (n + 1) mask ≡ bits_in n mask + 1
-bit_taken n mask h = bits_more n mask ∙ ap (λ (k : ℕ). bits_in n mask + k) (cond-true (bit mask (n + 1)) 1 0 (sym h))
-
-pub bit_left : (n mask : ℕ) → false ≡ bit mask (n + 1) → bits_in (n + 1) mask ≡ bits_in n mask + 0
-bit_left n mask h = bits_more n mask ∙ ap (λ (k : ℕ). bits_in n mask + k) (cond-false (bit mask (n + 1)) 1 0 (sym h))
+  pub bits_counted : (n : ℕ) → length (filter (bit mask) (range_with_len 1 n)) ≡ bits_in n mask
+  bits_counted n = ap (λ (xs : List ℕ). length (filter (bit mask) xs)) (sym (map-id (range_with_len 1 n))) ∙ counted n

@@ -1,18 +1,13 @@
 -- What the tables hold. Assumes nothing.
-use Rattle.std.specs.Prelude.{List, map, take}
+use Rattle.std.specs.Prelude.{ℕ, List, map, take}
 use Rattle.tables.specs.Cells.{Timetable}
-use Rattle.tables.specs.declared.row.Row.{Row}
-use Rattle.tables.specs.declared.event.Event.{Event}
-use Rattle.tables.specs.declared.rows.Rows.{Rows}
-use Rattle.tables.specs.declared.plan.DayPlan.{DayPlan}
+use Rattle.tables.specs.declared.list.Listed.{Listed}
 use Rattle.tables.specs.declared.tables.Tables.{Tables}
 
-abbrev pub rows_in : Rows → List Row
-rows_in r = take r.count r.rows
-
-abbrev pub events_in : DayPlan → List Event
-events_in p = take p.count p.events
+-- the things, as far as they are filled in
+abbrev pub things_in : {T : Type 0} {N : ℕ} → Listed T N → List T
+things_in l = take l.count l.places
 
 -- the timetable that tables are
 abbrev pub timetable_in : Tables → Timetable
-timetable_in t = record { offset = t.offset; summer = t.summer; rows = rows_in t.rows; plans = map events_in t.plans }
+timetable_in t = record { offset = t.offset; summer = t.summer; rows = things_in t.rows; plans = map things_in t.plans }

@@ -5,15 +5,13 @@ mod bits;
 mod event;
 mod filled;
 mod holding;
-mod plan;
+mod list;
 mod reading;
 mod row;
-mod rows;
 mod tables;
 
 pub use bits::has_bit;
 pub use event::{Event, Tariff};
-pub use plan::DayPlan;
+pub use list::{DayPlan, Rows};
 pub use row::Row;
-pub use rows::Rows;
 pub use tables::Tables;

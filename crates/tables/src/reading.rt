@@ -1,24 +1,59 @@
-ghost use Rattle.std.specs.Prelude.{◌≡◌, ◌<◌, ◌≤◌, map, pos, negsuc, ◌≤ℤ◌};
+ghost use Rattle.std.specs.Prelude.{◌≡◌, ℕ, ◌<◌, ◌≤◌, map, Option, pos, negsuc, ◌≤ℤ◌};
 ghost use Rattle.tables.specs.Bits.{bits_in};
 ghost use Rattle.tables.specs.Cells.{cell_at, counting_event, counting_row, event_at, offset_of, plan_at, plans_at, row_at, row_of, SameCells, timetable};
-ghost use Rattle.tables.specs.Filled.{events_in, rows_in, timetable_in};
+ghost use Rattle.tables.specs.Filled.{things_in, timetable_in};
 ghost use Rattle.tables.specs.Numbered.{numbered};
 
 use crate::bits::count_bits;
 use crate::event::Event;
-use crate::plan::DayPlan;
+use crate::list::{DayPlan, Listed, Rows};
 use crate::row::Row;
-use crate::rows::Rows;
 use crate::tables::Tables;
 use keeper::Counts;
 use layout::{event_cell, event_counts, row_cell};
+use std::array;
+
+// What stands in the free places of a list.
+const NO_ROW: Row = Row {
+    number: 0,
+    months: 0,
+    weekdays: 0,
+    dates: 0,
+    plan: 0,
+    counts: Counts {
+        months: 0,
+        dates: 0,
+        weekdays: 0,
+    },
+};
+
+const NO_EVENT: Event = Event {
+    number: 0,
+    minute: 0,
+    tariff: 0,
+};
+
+// The things with the numbers 1 to N that are there, in ascending number.
+fn numbered_in<T: Copy, const N: usize, F: Fn(u8) -> Option<T>>(blank: T, at: F) -> Listed<T, N>
+    requires few { N < 256 }
+    requires callable { F.IsAlwaysCallable at }
+    ensures { (there : ℕ → Option T) → ((k : ℕ) (thing : Option T) → F.post at k thing → thing ≡ there k) → things_in result ≡ numbered there N }
+{
+    let mut things = Listed::new(blank);
+    // a loop, since over `filter_map(at)` the goal `push-requires` stayed open
+    for before in 0..N as u8 {
+        if let Some(thing) = at(before + 1) {
+            things.push(thing);
+        }
+    }
+    things
+}
 
 // A cell beyond the list is 0.
 fn cell_at(cells: &[u32], c: u32) -> u32
     ensures { result ≡ cell_at cells.now c }
 {
-    let place = c as usize;
-    if place < cells.len() { cells[place] } else { 0 }
+    cells.get(c as usize).copied().unwrap_or(0)
 }
 
 fn counting_row(number: u8, months: u32, weekdays: u32, dates: u32, plan: u32) -> Option<Row>
@@ -59,15 +94,9 @@ fn row_at(cells: &[u32], number: u8) -> Option<Row>
 }
 
 fn rows_in(cells: &[u32]) -> Rows
-    ensures { rows_in result ≡ numbered (row_at (cell_at cells.now)) 32 }
+    ensures { things_in result ≡ numbered (row_at (cell_at cells.now)) 32 }
 {
-    let mut rows = Rows::new();
-    for before in 0..32u8 {
-        if let Some(row) = row_at(cells, before + 1) {
-            rows.push(row);
-        }
-    }
-    rows
+    numbered_in(NO_ROW, |number| row_at(cells, number))
 }
 
 fn counting_event(number: u8, hour: u32, minute: u32, tariff: u32) -> Option<Event>
@@ -98,23 +127,17 @@ fn event_at(cells: &[u32], plan: u8, number: u8) -> Option<Event>
 }
 
 fn events_in(cells: &[u32], plan: u8) -> DayPlan
-    ensures { events_in result ≡ numbered (event_at (cell_at cells.now) plan) 12 }
+    ensures { things_in result ≡ numbered (event_at (cell_at cells.now) plan) 12 }
 {
-    let mut events = DayPlan::new();
-    for before in 0..12u8 {
-        if let Some(event) = event_at(cells, plan, before + 1) {
-            events.push(event);
-        }
-    }
-    events
+    numbered_in(NO_EVENT, |number| event_at(cells, plan, number))
 }
 
 // The counting events of a plan; plan 0 has none.
 fn plan_in(cells: &[u32], plan: u8) -> DayPlan
-    ensures { events_in result ≡ plan_at (cell_at cells.now) plan }
+    ensures { things_in result ≡ plan_at (cell_at cells.now) plan }
 {
     if plan == 0 {
-        DayPlan::new()
+        DayPlan::new(NO_EVENT)
     } else {
         events_in(cells, plan)
     }
@@ -134,33 +157,23 @@ fn offset_of(zone: u32) -> i32
 }
 
 fn plans_in(cells: &[u32]) -> [DayPlan; 17]
-    ensures { map events_in result ≡ plans_at (cell_at cells.now) }
+    ensures { map things_in result ≡ plans_at (cell_at cells.now) }
 {
-    let mut plans = [DayPlan::new(); 17];
-    for p in 0..17u8 {
-        plans[p as usize] = plan_in(cells, p);
-    }
-    plans
+    array::from_fn(|plan| plan_in(cells, plan as u8))
 }
 
 impl Tables {
     // The tables of the cells; a cell beyond the list is 0.
+    #[tactic(auto, using(crate::proofs::Alike::same_cells), unfolding(crate::specs::Cells::timetable))]
     pub fn new(cells: &[u32]) -> Tables
         ensures answer { timetable_in result ≡ timetable (cell_at cells.now) }
         ensures alike { SameCells }
     {
-        read(cells)
-    }
-}
-
-fn read(cells: &[u32]) -> Tables
-    ensures answer { timetable_in result ≡ timetable (cell_at cells.now) }
-    ensures alike { SameCells }
-{
-    Tables {
-        offset: offset_of(cell_at(cells, 0)),
-        summer: cell_at(cells, 1) == 1,
-        rows: rows_in(cells),
-        plans: plans_in(cells),
+        Tables {
+            offset: offset_of(cell_at(cells, 0)),
+            summer: cell_at(cells, 1) == 1,
+            rows: rows_in(cells),
+            plans: plans_in(cells),
+        }
     }
 }

@@ -1,7 +1,6 @@
 ghost use Rattle.std.specs.Prelude.{pos, negsuc, ◌≤ℤ◌};
 
-use crate::plan::DayPlan;
-use crate::rows::Rows;
+use crate::list::{DayPlan, Rows};
 
 // What looks go by, copied once from the cells: the zone's offset, whether summer time is on, the counting rows, and the counting events of each plan; plan 0 has none.
 #[derive(Clone, Copy, Drop)]

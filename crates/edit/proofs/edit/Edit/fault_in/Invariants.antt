@@ -2,7 +2,8 @@ use Rattle.std.proofs.Common.{◌≡◌, ℕ, length, get_or, take}
 use Rattle.edit.specs.Drafts.{overwritten}
 use Rattle.edit.proofs.edit.Edit.fault_in.Given as goal
 
-abbrev pub invariant-loop-i : goal.invariant-loop-i
-invariant-loop-i g l =
-    (length l.t ≡ 706)
-    × ((k : ℕ) → get_or l.t k 0 ≡ get_or (overwritten (g.S.Store.cells l.store) (take l.i l.self.table)) k 0)
+abbrev pub invariant-loop-e : goal.invariant-loop-e
+invariant-loop-e g l = record {
+  long : length l.t ≡ 706;
+  same : (k : ℕ) → get_or l.t k 0 ≡ get_or (overwritten (g.S.Store.cells l.store) (take l.e-index l.e-items)) k 0;
+}

@@ -1,5 +1,0 @@
-use Rattle.std.proofs.Common.{◌≡◌, ℕ, ◌<◌, length, get_or}
-use Rattle.edit.proofs.tables.copied.Given as goal
-
-abbrev pub invariant-loop-c : goal.invariant-loop-c
-invariant-loop-c g l = (length l.t ≡ 706) × ((k : ℕ) → k < l.c → get_or l.t k 0 ≡ get_or (g.S.Store.cells l.store) k 0)
