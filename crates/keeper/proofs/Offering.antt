@@ -2,6 +2,8 @@
 use Rattle.std.proofs.Common.{◌≡◌, ℕ, ◌+◌, ◌<◌, ◌≤◌, Bool, true, false, cond, List, [], ◌∷◌, ◌++◌, map, length, get_or, take, Some, None, filter, Option, sym, refl, ap, ◌∙◌}
 use Rattle.std.proofs.lemmas.List.{map-append, append-nil, take_all}
 use Rattle.std.proofs.lemmas.List.Elements.{filter_more}
+use Rattle.std.specs.Ordering.{is_lt}
+use Rattle.std.specs.declared.cmp.Ordering.{Ordering}
 use Rattle.keeper.specs.Best.{first_best, map_option}
 use Rattle.keeper.specs.Offers.{ranked, place_of, own}
 use Rattle.keeper.proofs.Bests.{best_map}
@@ -26,10 +28,10 @@ module _ {X Y : Type 0} (offer : X → Y) (passes : X → Bool) (xs : List X) wh
   offer_all i h = ap (λ (ys : List X). map offer (filter passes ys)) (take_all i xs h)
 
 -- where each thing is offered as its own place, the best place is the first best thing
-module _ {X K : Type 0} (better : K → K → Bool) (rank : X → K) where
+module _ {X K : Type 0} (cmp : K → K → Ordering) (rank : X → K) where
   back : (o : Option X) → place_of (map_option (own rank) o) ≡ o
   back (Some x) = refl
   back None = refl
 
-  pub best_own : (xs : List X) → place_of (first_best (ranked better) (map (own rank) xs)) ≡ first_best (λ x y. better (rank x) (rank y)) xs
-  best_own xs = ap place_of (best_map (own rank) (ranked better) xs) ∙ back (first_best (λ x y. better (rank x) (rank y)) xs)
+  pub best_own : (xs : List X) → place_of (first_best (ranked cmp) (map (own rank) xs)) ≡ first_best (λ x y. is_lt (cmp (rank x) (rank y))) xs
+  best_own xs = ap place_of (best_map (own rank) (ranked cmp) xs) ∙ back (first_best (λ x y. is_lt (cmp (rank x) (rank y))) xs)

@@ -3,14 +3,8 @@
 
 mod counts;
 mod keeper;
-mod minute;
 mod offer;
-mod rank;
-mod second;
 
 pub use counts::Counts;
 pub use keeper::Keeper;
-pub use minute::Minute;
 pub use offer::Offer;
-pub use rank::Rank;
-pub use second::Second;
