@@ -32,7 +32,8 @@ impl<K: Ord + Drop, P: Drop> Keeper<K, P> {
         ensures answer { result ≡ self.best }
         ensures means { (xs : List (Offer K P)) → self.best ≡ first_best (ranked K.cmp) xs → IsFirstBest (ranked K.cmp) xs result }
     {
-        self.best
+        let Keeper { best } = self;
+        best
     }
 
     // The place that the best came from.

@@ -1,5 +1,5 @@
 -- The event in force at a second of a day. Assumes nothing.
-use Rattle.std.specs.Prelude.{ℕ, ◌*◌, Bool, true, List, ℤ, pos, ◌-ℤ◌, is_some, Some, None, filter, Option, nat_le, nat_lt}
+use Rattle.std.specs.Prelude.{ℕ, ◌*◌, Bool, List, ℤ, pos, ◌-ℤ◌, is_some, Some, None, filter, Option, nat_le, nat_lt}
 use Rattle.keeper.specs.Best.{first_best}
 use Rattle.keeper.specs.Least.{least_later}
 use Rattle.tables.specs.Cells.{Timetable}
@@ -18,11 +18,6 @@ latest_of events = first_best starts_later events
 -- an event starts at second 0 of its minute
 abbrev pub has_started : ℕ → Event → Bool
 has_started second event = nat_le (event.minute * 60) second
-
--- the same where a second is given; without one every event passes
-abbrev pub started_until : Option ℕ → Event → Bool
-started_until (Some second) event = has_started second event
-started_until None event = true
 
 -- those that have started at a second of the day
 unfoldable pub started_by : ℕ → List Event → List Event
