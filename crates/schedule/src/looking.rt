@@ -67,29 +67,25 @@ fn moment<R: SummerRule>(tables: &Tables, rule: &R, second: u32) -> Moment
 }
 
 // The latest of today's events that have started, or the day's opening event.
-fn event_in_force(tables: &Tables, day: i32, plan: u8, time: u32) -> EventInForce
+fn event_in_force(tables: &Tables, day: i32, plan: u8, time: u32) -> Option<EventInForce>
     requires from { negsuc 23 ≤ℤ day }
     requires to { day <ℤ pos 49732 }
     requires today { plan ≡ plan_on (timetable_in tables.now) day }
     ensures { result ≡ event_in_force (timetable_in tables.now) day time }
 {
     match latest_started(tables.events_of(plan), time) {
-        Some(event) => EventInForce {
-            plan,
-            number: event.number,
-            days_back: 0,
-            tariff: event.tariff,
-        },
+        Some(event) => Some(EventInForce::of(event, plan, 0)),
         None => opening_event(tables, day),
     }
 }
 
+// Where no event is in force, it shows as zeros.
 fn look_at(tables: &Tables, second: u32, moment: Moment, change: Option<u32>) -> Look
     ensures { LookFrom (timetable_in tables.now) second moment change result }
 {
     let row = row_of(tables, moment.day);
     let plan = plan_of(row);
-    let event = event_in_force(tables, moment.day, plan, moment.time);
+    let event = event_in_force(tables, moment.day, plan, moment.time).unwrap_or_default();
     Look {
         local_time: moment.local_time,
         row: number_of(row),
@@ -102,8 +98,9 @@ fn look_at(tables: &Tables, second: u32, moment: Moment, change: Option<u32>) ->
     }
 }
 
-fn whole_look<R: SummerRule>(tables: &Tables, rule: &R, second: u32) -> Look
-    ensures { result ≡ look_of (timetable_in tables.now) (R.SummerRule.in_force rule.now) second }
+// The look at any second, under any rule, over tables that were made once.
+pub fn look<R: SummerRule>(tables: &Tables, rule: &R, second: u32) -> Look
+    ensures answer { result ≡ look_of (timetable_in tables.now) (R.SummerRule.in_force rule.now) second }
 {
     look_at(
         tables,
@@ -111,11 +108,4 @@ fn whole_look<R: SummerRule>(tables: &Tables, rule: &R, second: u32) -> Look
         moment(tables, rule, second),
         next_change(tables, rule, second),
     )
-}
-
-// The look at any second, under any rule, over tables that were made once.
-pub fn look<R: SummerRule>(tables: &Tables, rule: &R, second: u32) -> Look
-    ensures answer { result ≡ look_of (timetable_in tables.now) (R.SummerRule.in_force rule.now) second }
-{
-    whole_look(tables, rule, second)
 }

@@ -1,5 +1,5 @@
 use Rattle.schedule.proofs.Both.{seen_twice}
-use Rattle.schedule.proofs.laws.looks_at.Goals as goal
+use Rattle.schedule.proofs.laws.look_twice.Goals as goal
 
 pub returns : goal.returns
 returns g c =

@@ -1,5 +1,5 @@
 use Rattle.schedule.proofs.Both.{of_cells, seen_alike}
-use Rattle.schedule.proofs.laws.looks_by.Goals as goal
+use Rattle.schedule.proofs.laws.look_by_both.Goals as goal
 
 pub returns : goal.returns
 returns g c =
