@@ -38,6 +38,7 @@ fn offer_change(soonest: &mut Keeper<u32, u32>, change: Option<u32>)
 }
 
 // The soonest of midnight and the starts that come later in the day.
+#[tactic(auto, using(crate::proofs::Soon::end), unfolding(crate::specs::Candidates::today))]
 fn soonest_today(t: u32, time: u32, events: &[Event]) -> Keeper<u32, u32>
     ensures { SoonestOf (today t time events.now) result.best }
 {
@@ -50,6 +51,7 @@ fn soonest_today(t: u32, time: u32, events: &[Event]) -> Keeper<u32, u32>
 }
 
 // The soonest of these and the rule's next change.
+#[tactic(auto, using(crate::proofs::Soon::soonest_is))]
 fn next_boundary(t: u32, time: u32, events: &[Event], change: Option<u32>) -> Option<u32>
     ensures { result ≡ first_best (λ x y. nat_lt x y) (candidates t time events.now change) }
 {
@@ -66,6 +68,7 @@ fn second_before(boundary: Option<u32>) -> u32
 }
 
 // The last second of the look at t, from the second of its day, the events of the day and the rule's next change.
+#[tactic(auto, using(crate::proofs::Nearest::last_by))]
 pub(crate) fn last_second(t: u32, time: u32, events: &[Event], change: Option<u32>) -> u32
     ensures { LastFrom t time events.now change result }
 {

@@ -33,6 +33,7 @@ pub fn look_by_both<R: SummerRule, Q: SummerRule>(
 }
 
 // The last second up to which the look at a second stays, with what holds of all looks.
+#[tactic(auto, using(crate::proofs::Both::laws))]
 pub fn last_second_of<R: SummerRule>(tables: &Tables, rule: &R, second: u32) -> u32
     ensures answer { result ≡ (look_of (timetable_in tables.now) (R.SummerRule.in_force rule.now) second).last_second }
     ensures laws { Laws }

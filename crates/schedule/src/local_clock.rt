@@ -35,6 +35,7 @@ impl<R: SummerRule> LocalClock<'_, R> {
     }
 
     // The rule's next change, where summer time is on.
+    #[tactic(auto, unfolding(crate::specs::Candidates::next_change))]
     pub(crate) fn next_change(&self, second: u32) -> Option<u32>
         ensures { result ≡ next_change (setting_by R.SummerRule.in_force self.now) second }
     {
@@ -54,6 +55,7 @@ impl<R: SummerRule> LocalClock<'_, R> {
         local_time(second, self.tables.offset, self.in_summer(second))
     }
 
+    #[tactic(auto, unfolding(crate::specs::Boundaries::day_at, crate::specs::Boundaries::time_at))]
     pub(crate) fn moment(&self, second: u32) -> Moment
         ensures { IsMoment (setting_by R.SummerRule.in_force self.now) second result }
     {

@@ -17,6 +17,7 @@ use summer::SummerRule;
 use tables::Tables;
 
 // The latest of today's events that have started, or the day's opening event.
+#[tactic(auto, using(crate::proofs::Wholes::started))]
 fn event_in_force(tables: &Tables, day: i32, plan: u8, time: u32) -> Option<EventInForce>
     requires from { negsuc 23 ≤ℤ day }
     requires to { day <ℤ pos 49732 }
@@ -30,6 +31,7 @@ fn event_in_force(tables: &Tables, day: i32, plan: u8, time: u32) -> Option<Even
 }
 
 // Where no event is in force, it shows as zeros.
+#[tactic(auto, using(crate::proofs::Wholes::plan_is))]
 fn look_at(tables: &Tables, second: u32, moment: Moment, change: Option<u32>) -> Look
     ensures { LookFrom (timetable_in tables.now) second moment change result }
 {

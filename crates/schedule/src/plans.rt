@@ -30,6 +30,7 @@ pub(crate) fn row_of(tables: &Tables, day: i32) -> Option<Row>
 }
 
 // The plan of a day.
+#[tactic(auto, unfolding(crate::specs::Plans::plan_on))]
 pub(crate) fn plan_on(tables: &Tables, day: i32) -> u8
     requires { InDays day }
     ensures { result ≡ plan_on (timetable_in tables.now) day }

@@ -1,12 +1,8 @@
 use Rattle.std.proofs.Common.{arith, rules}
 use borrow.Author.Differences.{ints}
 use Rattle.tables.specs.Filled.{timetable_in}
-use Rattle.schedule.proofs.Wholes.{plan_is, whole}
+use Rattle.schedule.proofs.Wholes.{whole}
 use Rattle.schedule.proofs.looking.look_at.Goals as goal
-
-pub event_in_force-requires-clause-today : goal.event_in_force-requires-clause-today
-event_in_force-requires-clause-today c =
-    plan_is (timetable_in c.args.tables.now) _ c.row_of-row.result c.plan_of-plan.result c.row_of-row.ensures c.plan_of-plan.ensures
 
 pub returns : goal.returns
 returns c =
