@@ -4,10 +4,20 @@ use Rattle.std.specs.Ordering.{is_lt}
 use Rattle.std.specs.declared.cmp.Ordering.{Ordering}
 use Rattle.std.proofs.lemmas.List.{map-append, append-nil, take_all}
 use Rattle.std.proofs.lemmas.List.Elements.{filter_more}
+use Rattle.std.specs.Option.{option_map}
 use Rattle.keeper.specs.declared.offer.Offer.{Offer}
-use Rattle.keeper.specs.Best.{first_best, map_option}
+use Rattle.keeper.specs.Best.{first_best}
 use Rattle.keeper.specs.Offers.{ranked, place_of, own}
 use Rattle.keeper.proofs.Bests.{best_map}
+
+-- where each thing is offered as its own place, the best place is the first best thing
+module _ {X K : Type 0} (cmp : K → K → Ordering) (key : X → K) where
+  back : (o : Option X) → place_of (option_map (own key) o) ≡ o
+  back (Some x) = refl
+  back None = refl
+
+  pub best_own : (xs : List X) → place_of (first_best (ranked cmp) (map (own key) xs)) ≡ first_best (λ x y. is_lt (cmp (key x) (key y))) xs
+  best_own xs = ap place_of (best_map (own key) (ranked cmp) xs) ∙ back (first_best (λ x y. is_lt (cmp (key x) (key y))) xs)
 
 module _ {X K : Type 0} (cmp : K → K → Ordering) (key : X → K) (test : X → Bool) (xs : List X) where
   -- what is offered of the first i things
@@ -30,12 +40,7 @@ module _ {X K : Type 0} (cmp : K → K → Ordering) (key : X → K) (test : X �
   pub kept_left : (i : ℕ) (x : X) (best : Option (Offer K X)) → i < length xs → x ≡ get_or xs i x → test x ≡ false → Kept i best → Kept (i + 1) best
   kept_left i x best h is e b = b ∙ ap (first_best (ranked cmp)) (sym (more i x false h is e ∙ append-nil (offered i)))
 
-  back : (o : Option X) → place_of (map_option (own key) o) ≡ o
-  back (Some x) = refl
-  back None = refl
-
   -- in the end the best place is the first best thing
   pub kept_all : (i : ℕ) (best : Option (Offer K X)) → length xs ≤ i → Kept i best → place_of best ≡ first_best (λ x y. is_lt (cmp (key x) (key y))) (filter test xs)
   kept_all i best h b =
-      ap place_of (b ∙ (ap (λ (ys : List X). first_best (ranked cmp) (map (own key) (filter test ys))) (take_all i xs h) ∙ best_map (own key) (ranked cmp) (filter test xs)))
-      ∙ back (first_best (λ x y. is_lt (cmp (key x) (key y))) (filter test xs))
+      ap place_of (b ∙ ap (λ (ys : List X). first_best (ranked cmp) (map (own key) (filter test ys))) (take_all i xs h)) ∙ best_own cmp key (filter test xs)

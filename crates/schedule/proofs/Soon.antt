@@ -1,12 +1,12 @@
 -- The keeper of the soonest second, over the day's events.
-use Rattle.std.proofs.Common.{◌≡◌, ℕ, ◌+◌, ◌-◌, ◌≤◌, ltb, List, [], ◌++◌, map, length, take, Some, None, Option, sym, refl, ap, ◌∙◌}
+use Rattle.std.proofs.Common.{◌≡◌, ℕ, ◌+◌, ◌-◌, ◌≤◌, ltb, List, [], ◌++◌, map, length, take, Option, sym, ap, ◌∙◌}
 use Rattle.std.specs.List.{flat_map}
 use Rattle.std.proofs.lemmas.List.{append-nil, take_all}
-use Rattle.std.specs.Ordering.{is_lt, nat_cmp}
+use Rattle.std.specs.Ordering.{nat_cmp}
 use Rattle.keeper.specs.declared.offer.Offer.{Offer}
-use Rattle.keeper.specs.Best.{first_best, map_option}
+use Rattle.keeper.specs.Best.{first_best}
 use Rattle.keeper.specs.Offers.{own, place_of, ranked}
-use Rattle.keeper.proofs.Bests.{best_map}
+use Rattle.keeper.proofs.Offering.{best_own}
 use Rattle.keeper.proofs.Orders.{numbers}
 use Rattle.schedule.specs.Candidates.{up_to, ahead}
 use Rattle.schedule.specs.Soonest.{SoonestOf}
@@ -23,9 +23,4 @@ end ms t s i es kept h k = k ∙ ap (λ (xs : List Event). first_best (ranked na
 
 -- what is kept in the end
 pub soonest_is : (xs : List ℕ) (kept : Option (Offer ℕ ℕ)) → SoonestOf xs kept → place_of kept ≡ first_best (λ x y. ltb x y) xs
-soonest_is xs kept k =
-    ap place_of (k ∙ best_map (own (λ n. n)) (ranked nat_cmp) xs) ∙ (back (first_best (λ x y. is_lt (nat_cmp x y)) xs) ∙ (λ j. first_best (λ x y. numbers x y j) xs))
-  where
-    back : (o : Option ℕ) → place_of (map_option (own (λ n. n)) o) ≡ o
-    back (Some n) = refl
-    back None = refl
+soonest_is xs kept k = ap place_of k ∙ (best_own nat_cmp (λ n. n) xs ∙ (λ j. first_best (λ x y. numbers x y j) xs))
