@@ -1,5 +1,6 @@
 -- The table as a timetable, computed once, and a look by its parts.
 use Rattle.std.proofs.Common.{◌≡◌, ℕ, Bool, true, ◌&&◌, ltb, List, [], ◌∷◌, ℤ, pos, ◌-ℤ◌, is_some, Some, None, Option, sym, refl, ap, ◌∙◌, arith}
+use Rattle.std.specs.Option.{unwrap_or}
 use Rattle.calendar.specs.Dates.{InDays, IsDate}
 use Rattle.localtime.specs.Local.{local_time_of, day_of, time_of}
 use Rattle.localtime.specs.Weekdays.{weekday_of}
@@ -10,7 +11,7 @@ use Rattle.tables.specs.Cells.{Timetable, cell_at, plans_at, timetable}
 use Rattle.schedule.specs.RowInForce.{best_row, row_on, row_number, row_plan}
 use Rattle.schedule.specs.Plans.{plan_on, events_on}
 use Rattle.tables.specs.Cells.{events_of}
-use Rattle.schedule.specs.EventInForce.{latest_of, started_by, days_back_of, event_from, closing_from, opening_of, event_in_force}
+use Rattle.schedule.specs.EventInForce.{latest_of, started_by, days_back_of, event_from, closing_from, opening_of, event_in_force, event_of, no_event}
 use Rattle.schedule.specs.Boundaries.{local_at, day_at, time_at, before_next, last_of}
 use Rattle.schedule.specs.Candidates.{candidates, next_change}
 use Rattle.schedule.specs.Looks.{Rule, setting_of, showing, look_of}
@@ -58,7 +59,7 @@ pub plan_of_lem : (z : Timetable) (d : ℤ) (r : Option Row) → row_on z.rows d
 unfolding plan_on
 plan_of_lem z d r h = ap row_plan h
 
-module _ (z : Timetable) (f : Rule) (t : ℕ) (b : Bool) (local d : ℤ) (s : ℕ) (r : Option Row) (e : EventInForce) (c : Option ℕ) where
+module _ (z : Timetable) (f : Rule) (t : ℕ) (b : Bool) (local d : ℤ) (s : ℕ) (r : Option Row) (e : Option EventInForce) (c : Option ℕ) where
   local_is : f z.offset t ≡ b → local_time_of t z.offset (z.summer && b) ≡ local → local_at (setting_of z f) t ≡ local
   unfolding local_at
   local_is hb hl = ap (λ (w : Bool). local_time_of t z.offset (z.summer && w)) hb ∙ hl
@@ -78,7 +79,7 @@ module _ (z : Timetable) (f : Rule) (t : ℕ) (b : Bool) (local d : ℤ) (s : �
 
   pub by_parts : f z.offset t ≡ b → local_time_of t z.offset (z.summer && b) ≡ local → day_of local ≡ d → time_of local ≡ s → row_on z.rows d ≡ r
       → event_in_force z d s ≡ e → next_change (setting_of z f) t ≡ c
-      → look_of z f t ≡ showing local (row_number r) (row_plan r) e (before_next (first_best (λ x y. ltb x y) (candidates t s (events_of z (row_plan r)) c)))
+      → look_of z f t ≡ showing local (row_number r) (row_plan r) (unwrap_or e no_event) (before_next (first_best (λ x y. ltb x y) (candidates t s (events_of z (row_plan r)) c)))
   unfolding look_of
   by_parts hb hl hd hs hr he hc =
       let l = local_is hb hl in
@@ -91,15 +92,15 @@ module _ (z : Timetable) (f : Rule) (t : ℕ) (b : Bool) (local d : ℤ) (s : �
 -- the event in force: one that has started today, or else yesterday's last
 module _ (z : Timetable) (d : ℤ) (s p : ℕ) (today : p ≡ plan_on z d) where
   pub of_today : (e : Event) → Some e ≡ latest_of (started_by s (events_of z p))
-      → ◌≡◌ {A = EventInForce} (event_in_force z d s) (record { plan = p; number = e.number; days_back = 0; tariff = e.tariff })
+      → event_in_force z d s ≡ Some (event_of p 0 e)
   of_today e h = sym (started z d s p (events_of z p) today refl e h)
 
   pub of_yesterday : (q : ℕ) (e : Event) → plan_on z (d -ℤ pos 1) ≡ q → None ≡ latest_of (started_by s (events_of z p)) → latest_of (events_of z q) ≡ Some e
-      → ◌≡◌ {A = EventInForce} (event_in_force z d s) (record { plan = q; number = e.number; days_back = 1; tariff = e.tariff })
+      → event_in_force z d s ≡ Some (event_of q 1 e)
   unfolding opening_of days_back_of
   of_yesterday q e a h l =
       let yesterday : latest_of (events_on z (d -ℤ pos 1)) ≡ Some e = ap (λ (n : ℕ). latest_of (events_of z n)) a ∙ l in
       let back : days_back_of z d ≡ Some 1 = later_hit (λ j. is_some (latest_of (events_on z (d -ℤ pos j)))) 0 7 (omega arith) (ap is_some yesterday) in
-      let opening : opening_of z d ≡ record { plan = q; number = e.number; days_back = 1; tariff = e.tariff } =
-      ap (closing_from z d) back ∙ (ap (event_from z d 1) yesterday ∙ ap (λ (n : ℕ). record { plan = n; number = e.number; days_back = 1; tariff = e.tariff }) a) in
+      let opening : opening_of z d ≡ Some (event_of q 1 e) =
+      ap (closing_from z d) back ∙ (ap (event_from z d 1) yesterday ∙ ap (λ (n : ℕ). Some (event_of n 1 e)) a) in
       sym (opened z d s p (events_of z p) today refl (opening_of z d) d refl refl h) ∙ opening

@@ -1,6 +1,7 @@
 -- The worked examples, computed.
 use Rattle.std.proofs.Common.{◌≡◌, ℕ, ◌+◌, ◌<◌, ◌≤◌, Bool, true, false, ltb, List, [], ◌∷◌, map, length, ℤ, pos, negsuc, Some, Option, sym, refl, ap, ◌∙◌, ap₂, arith}
 use borrow.Author.Differences.{ints}
+use Rattle.std.specs.Option.{unwrap_or}
 use Rattle.calendar.specs.Months.{month_first_of, length_at, length_of}
 use Rattle.calendar.specs.Dates.{InDays, IsDate, place_of}
 use Rattle.localtime.specs.Weekdays.{weekday_of}
@@ -11,7 +12,7 @@ use Rattle.tables.specs.Numbered.{numbered}
 use Rattle.tables.specs.Bits.{bits_in}
 use Rattle.tables.specs.Cells.{Timetable, cell_at, timetable}
 use Rattle.tables.specs.Cells.{events_of}
-use Rattle.schedule.specs.EventInForce.{latest_of, started_by, event_in_force}
+use Rattle.schedule.specs.EventInForce.{latest_of, started_by, event_in_force, no_event}
 use Rattle.schedule.specs.Boundaries.{local_at, before_next}
 use Rattle.schedule.specs.Candidates.{today, candidates, next_change}
 use Rattle.schedule.specs.Looks.{showing, look_of, look_at}
@@ -83,9 +84,9 @@ unfolding weekday_of best_row first_best first_unbeaten beaten
 row_20083 = row_at 12 20058 20083 26 5 (Some always) (omega arith) (omega arith) december (omega arith) (omega arith) refl (omega arith) refl refl
 
 -- a look on the table, from its second's local time, the row of its day and the event in force then
-look_by : (t : ℕ) (b : Bool) (local d : ℤ) (s : ℕ) (r : Option Row) (e : EventInForce) (c : Option ℕ) → europe (pos 3600) t ≡ b → local_time_of t (pos 3600) b ≡ local
+look_by : (t : ℕ) (b : Bool) (local d : ℤ) (s : ℕ) (r : Option Row) (e : Option EventInForce) (c : Option ℕ) → europe (pos 3600) t ≡ b → local_time_of t (pos 3600) b ≡ local
     → day_of local ≡ d → time_of local ≡ s → row_on table.rows d ≡ r → event_in_force table d s ≡ e → least_later (changes (europe (pos 3600))) t 4294967295 ≡ c
-    → look_at cells europe t ≡ showing local (row_number r) (row_plan r) e (before_next (first_best (λ x y. ltb x y) (candidates t s (events_of table (row_plan r)) c)))
+    → look_at cells europe t ≡ showing local (row_number r) (row_plan r) (unwrap_or e no_event) (before_next (first_best (λ x y. ltb x y) (candidates t s (events_of table (row_plan r)) c)))
 unfolding next_change
 look_by t b local d s r e c hb hl hd hs hr he hc =
     ap (λ (z : Timetable). look_of z europe t) tabled ∙ by_parts table europe t b local d s r e c hb hl hd hs hr he hc

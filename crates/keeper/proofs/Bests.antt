@@ -6,7 +6,8 @@ use Rattle.std.specs.List.{IsFirstBest as FirstBest, best_of}
 use Rattle.std.proofs.lemmas.List.MinMax.{IsFirstBest-from_best_of}
 use Rattle.std.proofs.lemmas.List.{get_or_default, get_or_append_left}
 use Rattle.std.proofs.lemmas.Bool.{both_ways, or_from, or_left, or_right, cases_lt}
-use Rattle.keeper.specs.Best.{beaten, first_unbeaten, first_best, Best, IsFirstBest, keep_one, map_option}
+use Rattle.std.specs.Option.{option_map}
+use Rattle.keeper.specs.Best.{beaten, first_unbeaten, first_best, Best, IsFirstBest, keep_one}
 
 module _ {X : Type 0} (beats : X → X → Bool) where
   -- beaten by none, and by one
@@ -140,15 +141,15 @@ module _ {X Y : Type 0} (f : X → Y) (beats : Y → Y → Bool) where
   beaten_map [] x = refl
   beaten_map (y ∷ ys) x = rw (beaten_map ys x)
 
-  by_map : (w : Bool) (x : X) (o : Option X) → cond w (map_option f o) (Some (f x)) ≡ map_option f (cond w o (Some x))
+  by_map : (w : Bool) (x : X) (o : Option X) → cond w (option_map f o) (Some (f x)) ≡ option_map f (cond w o (Some x))
   by_map true x o = refl
   by_map false x o = refl
 
-  unbeaten_map : (xs ys : List X) → first_unbeaten beats (map f xs) (map f ys) ≡ map_option f (first_unbeaten (λ a b. beats (f a) (f b)) xs ys)
+  unbeaten_map : (xs ys : List X) → first_unbeaten beats (map f xs) (map f ys) ≡ option_map f (first_unbeaten (λ a b. beats (f a) (f b)) xs ys)
   unfolding first_unbeaten
   unbeaten_map xs [] = refl
   unbeaten_map xs (y ∷ ys) = rw (beaten_map xs y, unbeaten_map xs ys) (by_map (beaten (λ a b. beats (f a) (f b)) xs y) y _)
 
-  pub best_map : (xs : List X) → first_best beats (map f xs) ≡ map_option f (first_best (λ a b. beats (f a) (f b)) xs)
+  pub best_map : (xs : List X) → first_best beats (map f xs) ≡ option_map f (first_best (λ a b. beats (f a) (f b)) xs)
   unfolding first_best
   best_map xs = unbeaten_map xs xs

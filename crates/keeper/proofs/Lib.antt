@@ -2,3 +2,4 @@ pub mod Leasts
 pub mod Bests
 pub mod Ranked
 pub mod Offering
+pub mod Orders

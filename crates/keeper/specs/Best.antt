@@ -32,7 +32,3 @@ IsFirstBest beats xs None = xs ≡ []
 abbrev pub keep_one : {X : Type 0} → (X → X → Bool) → Option X → X → Option X
 keep_one beats None x = Some x
 keep_one beats (Some b) x = cond (beats x b) (Some x) (Some b)
-
-abbrev pub map_option : {X Y : Type 0} → (X → Y) → Option X → Option Y
-map_option f (Some x) = Some (f x)
-map_option f None = None

@@ -1,4 +1,5 @@
-use keeper::{Counts, Keeper, Minute, Second};
+use keeper::{Counts, Keeper};
+use std::cmp::Reverse;
 
 fn counts(months: u8, dates: u8, weekdays: u8) -> Counts {
     Counts {
@@ -22,19 +23,19 @@ fn fewest_months_then_dates_then_weekdays(rt: HostRuntime) {
 #[test]
 fn later_minute_and_earlier_second(rt: HostRuntime) {
     let mut latest = Keeper::new();
-    latest.offer(Minute(360), 1u8);
-    latest.offer(Minute(1320), 2);
-    latest.offer(Minute(1320), 3);
+    latest.offer(Reverse(360u16), 1u8);
+    latest.offer(Reverse(1320), 2);
+    latest.offer(Reverse(1320), 3);
     assert_eq!(rt; latest.best_place(), Some(2));
     let mut soonest = Keeper::new();
-    soonest.offer(Second(86400), 1u8);
-    soonest.offer(Second(21600), 2);
-    soonest.offer(Second(21600), 3);
+    soonest.offer(86400u32, 1u8);
+    soonest.offer(21600, 2);
+    soonest.offer(21600, 3);
     assert_eq!(rt; soonest.best_place(), Some(2));
 }
 
 #[test]
 fn nothing_offered(rt: HostRuntime) {
-    let none: Keeper<Second, u8> = Keeper::new();
+    let none: Keeper<u32, u8> = Keeper::new();
     assert_eq!(rt; none.best_place(), None);
 }

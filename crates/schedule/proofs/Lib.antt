@@ -9,3 +9,4 @@ pub mod Steadying
 pub mod Agree
 pub mod Both
 pub mod Meaning
+pub mod Ranks

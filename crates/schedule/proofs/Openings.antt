@@ -18,7 +18,7 @@ module _ (z : Timetable) (d : ℤ) where
   has back = is_some (latest back)
 
   -- at t days back, with what the days before that give
-  by : (t : ℕ) → t < 7 → (o : Option Event) → latest (t + 1) ≡ o → (h : EventInForce) → h ≡ closing_from z d (least_later has (t + 1) 7)
+  by : (t : ℕ) → t < 7 → (o : Option Event) → latest (t + 1) ≡ o → (h : Option EventInForce) → h ≡ closing_from z d (least_later has (t + 1) 7)
       → closes (plan_on z (d -ℤ pos (t + 1))) (t + 1) h o ≡ closing_from z d (least_later has t 7)
   by t l (Some e) q h i =
       let x : least_later has t 7 ≡ Some (t + 1) = later_hit has t 7 l (ap is_some q) in
@@ -42,10 +42,13 @@ unfolding opening_of days_back_of
 openings_mean z d = from z d 7 0 d refl (omega (arith, ints))
 
 -- one step of the code
-pub step : (z : Timetable) (d e : ℤ) (left : ℕ) → (left ≡ 0 → ⊥) → e ≡ d -ℤ pos 1 → closing_within z e (left - 1) ≡ opening_within z d left
+pub none_left : (z : Timetable) (d : ℤ) (left : ℕ) (r : Option EventInForce) → left ≡ 0 → r ≡ None → r ≡ opening_within z d left
 unfolding opening_within
-step z d e zero h q = absurd (h refl)
-step z d e (suc left) h q = let k : suc left - 1 ≡ left = omega arith in rw (q, k)
+none_left z d left r h e = e ∙ rw h refl
 
-pub within_seven : (z : Timetable) (d e : ℤ) (r : EventInForce) → r ≡ opening_within z e 7 → e ≡ d → r ≡ opening_of z d
+pub step : (z : Timetable) (d e : ℤ) (left fewer : ℕ) (r : Option EventInForce) → left ≡ fewer + 1 → e ≡ d -ℤ pos 1 → r ≡ closing_within z e fewer → r ≡ opening_within z d left
+unfolding opening_within
+step z d e left fewer r h q p = let k : left ≡ suc fewer = omega arith in p ∙ rw (k, q) refl
+
+pub within_seven : (z : Timetable) (d e : ℤ) (r : Option EventInForce) → r ≡ opening_within z e 7 → e ≡ d → r ≡ opening_of z d
 within_seven z d e r p q = p ∙ (openings_mean z e ∙ ap (opening_of z) q)

@@ -1,40 +1,26 @@
--- The keeper of the soonest second, offered one more.
-use Rattle.std.proofs.Common.{◌≡◌, ℕ, ◌+◌, ◌-◌, ◌<◌, ◌≤◌, ltb, leb, List, [], ◌∷◌, ◌++◌, map, length, get_or, take, Option, sym, ap, ◌∙◌}
+-- The keeper of the soonest second, over the day's events.
+use Rattle.std.proofs.Common.{◌≡◌, ℕ, ◌+◌, ◌-◌, ◌≤◌, ltb, List, [], ◌++◌, map, length, take, Option, sym, ap, ◌∙◌}
 use Rattle.std.specs.List.{flat_map}
-use Rattle.std.proofs.lemmas.List.{map-append, append-nil, take_more, take_all, flat_map_more}
-use Rattle.std.proofs.lemmas.Bool.{le-leb, cond-true}
+use Rattle.std.proofs.lemmas.List.{append-nil, take_all}
+use Rattle.std.specs.Ordering.{nat_cmp}
 use Rattle.keeper.specs.declared.offer.Offer.{Offer}
-use Rattle.keeper.specs.declared.second.Second.{Second}
 use Rattle.keeper.specs.Best.{first_best}
 use Rattle.keeper.specs.Offers.{own, place_of, ranked}
 use Rattle.keeper.proofs.Offering.{best_own}
+use Rattle.keeper.proofs.Orders.{numbers}
 use Rattle.schedule.specs.Candidates.{up_to, ahead}
-use Rattle.schedule.specs.Soonest.{earlier, second_of, SoonestOf}
+use Rattle.schedule.specs.Soonest.{SoonestOf}
 use Rattle.tables.specs.declared.event.Event.{Event}
 
-pub pushed : (xs ys : List ℕ) (n : ℕ) (kept : Option (Offer Second ℕ)) → kept ≡ first_best (ranked earlier) (map (own second_of) xs ++ (own second_of n ∷ []))
-    → ys ≡ n ∷ [] → SoonestOf (xs ++ ys) kept
-pushed xs ys n kept e q = e ∙ ap (first_best (ranked earlier)) (sym (map-append (own second_of) xs (n ∷ [])) ∙ ap (λ (zs : List ℕ). map (own second_of) (xs ++ zs)) (sym q))
-
--- a second that is not past the last one
-pub within : (m n : ℕ) → n ≡ m → m ≤ 4294967295 → up_to m ≡ n ∷ []
-within m n e h = cond-true (leb m 4294967295) (m ∷ []) [] (le-leb m 4294967295 h) ∙ ap (λ (k : ℕ). k ∷ []) (sym e)
-
--- the loop over the day's events: its start, its turn and its end
-pub begin : (t s n : ℕ) (kept : Option (Offer Second ℕ)) → n ≡ 86400 - s → SoonestOf (up_to (t + n)) kept → SoonestOf (up_to (t + (86400 - s)) ++ []) kept
+-- the loop over the day's events: its start and its end
+pub begin : (t s n : ℕ) (kept : Option (Offer ℕ ℕ)) → n ≡ 86400 - s → SoonestOf (up_to (t + n)) kept → SoonestOf (up_to (t + (86400 - s)) ++ []) kept
 begin t s n kept e k =
-    k ∙ ap (λ (xs : List ℕ). first_best (ranked earlier) (map (own second_of) xs)) (ap (λ (m : ℕ). up_to (t + m)) e ∙ sym (append-nil (up_to (t + (86400 - s)))))
+    k ∙ ap (λ (xs : List ℕ). first_best (ranked nat_cmp) (map (own (λ n. n)) xs)) (ap (λ (m : ℕ). up_to (t + m)) e ∙ sym (append-nil (up_to (t + (86400 - s)))))
 
-pub turn : (ms : List ℕ) (t s i : ℕ) (es : List Event) (d : Event) (kept : Option (Offer Second ℕ)) → i < length es
-    → SoonestOf ((ms ++ flat_map (ahead t s) (take i es)) ++ ahead t s (get_or es i d)) kept → SoonestOf (ms ++ flat_map (ahead t s) (take (i + 1) es)) kept
-turn ms t s i es d kept h k =
-    k ∙ ap (λ (xs : List ℕ). first_best (ranked earlier) (map (own second_of) xs))
-    (flat_map_more (ahead t s) ms (take i es) (get_or es i d) ∙ ap (λ (xs : List Event). ms ++ flat_map (ahead t s) xs) (sym (take_more es i d h)))
-
-pub end : (ms : List ℕ) (t s i : ℕ) (es : List Event) (kept : Option (Offer Second ℕ)) → length es ≤ i
+pub end : (ms : List ℕ) (t s i : ℕ) (es : List Event) (kept : Option (Offer ℕ ℕ)) → length es ≤ i
     → SoonestOf (ms ++ flat_map (ahead t s) (take i es)) kept → SoonestOf (ms ++ flat_map (ahead t s) es) kept
-end ms t s i es kept h k = k ∙ ap (λ (xs : List Event). first_best (ranked earlier) (map (own second_of) (ms ++ flat_map (ahead t s) xs))) (take_all i es h)
+end ms t s i es kept h k = k ∙ ap (λ (xs : List Event). first_best (ranked nat_cmp) (map (own (λ n. n)) (ms ++ flat_map (ahead t s) xs))) (take_all i es h)
 
 -- what is kept in the end
-pub soonest_is : (xs : List ℕ) (kept : Option (Offer Second ℕ)) → SoonestOf xs kept → place_of kept ≡ first_best (λ x y. ltb x y) xs
-soonest_is xs kept k = ap place_of k ∙ best_own earlier second_of xs
+pub soonest_is : (xs : List ℕ) (kept : Option (Offer ℕ ℕ)) → SoonestOf xs kept → place_of kept ≡ first_best (λ x y. ltb x y) xs
+soonest_is xs kept k = ap place_of k ∙ (best_own nat_cmp (λ n. n) xs ∙ (λ j. first_best (λ x y. numbers x y j) xs))

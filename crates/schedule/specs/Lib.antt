@@ -9,3 +9,4 @@ pub mod Soonest
 pub mod Looks
 pub mod Moments
 pub mod Laws
+pub mod Clocks

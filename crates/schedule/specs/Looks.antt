@@ -1,9 +1,10 @@
 -- The whole look, for any timetable, any rule and any second. Assumes nothing.
 use Rattle.std.specs.Prelude.{◌≡◌, ℕ, ◌≤◌, Bool, List, ℤ, pos, negsuc, ◌+ℤ◌, ◌≤ℤ◌}
+use Rattle.std.specs.Option.{unwrap_or}
 use Rattle.tables.specs.Cells.{Timetable, cell_at, timetable}
 use Rattle.schedule.specs.RowInForce.{row_on, row_number}
 use Rattle.schedule.specs.Plans.{plan_on, events_on}
-use Rattle.schedule.specs.EventInForce.{event_in_force}
+use Rattle.schedule.specs.EventInForce.{event_in_force, no_event}
 use Rattle.schedule.specs.Boundaries.{Setting, local_at, day_at, time_at, last_of}
 use Rattle.schedule.specs.declared.shown.EventInForce.{EventInForce}
 use Rattle.schedule.specs.declared.answer.Look.{Look}
@@ -29,11 +30,11 @@ showing local row plan e last =
       last_second = last;
     }
 
--- local time, row and plan of its day, the event in force then, and the last second before the next boundary
+-- local time, row and plan of its day, the event in force then or zeros for none, and the last second before the next boundary
 unfoldable pub look_of : Timetable → Rule → ℕ → Look
 look_of z f t =
     showing (local_at (setting_of z f) t) (row_number (row_on z.rows (day_at (setting_of z f) t))) (plan_on z (day_at (setting_of z f) t))
-    (event_in_force z (day_at (setting_of z f) t) (time_at (setting_of z f) t)) (last_of (setting_of z f) t)
+    (unwrap_or (event_in_force z (day_at (setting_of z f) t) (time_at (setting_of z f) t)) no_event) (last_of (setting_of z f) t)
 
 -- the look of a list of cells
 abbrev pub look_at : List ℕ → Rule → ℕ → Look

@@ -6,6 +6,7 @@ mod boundary;
 mod day;
 mod latest;
 mod laws;
+mod local_clock;
 mod looking;
 mod moment;
 mod opening;

@@ -1,5 +1,5 @@
 ghost use Rattle.std.specs.Prelude.{◌≡◌, ◌≤◌, pos, negsuc, ◌-ℤ◌, ◌≤ℤ◌, ◌<ℤ◌};
-ghost use Rattle.schedule.specs.EventInForce.{no_event, opening_of};
+ghost use Rattle.schedule.specs.EventInForce.{opening_of};
 ghost use Rattle.tables.specs.Filled.{timetable_in};
 ghost use Rattle.schedule.specs.Openings.{closing_within, opening_within};
 
@@ -8,35 +8,21 @@ use crate::plans::plan_on;
 use crate::shown::EventInForce;
 use tables::Tables;
 
-fn no_event() -> EventInForce
-    ensures { result ≡ no_event }
-{
-    EventInForce {
-        plan: 0,
-        number: 0,
-        days_back: 0,
-        tariff: 0,
-    }
-}
-
 // What a day opens with: the closing event of the day before, while days are left.
 #[cycle(closing_opening)]
-fn opening(tables: &Tables, day: i32, left: u8) -> EventInForce
+fn opening(tables: &Tables, day: i32, left: u8) -> Option<EventInForce>
     requires from { negsuc 30 ≤ℤ (day -ℤ pos left) }
     requires to { day <ℤ pos 49732 }
     requires seven { left ≤ 7 }
     ensures { result ≡ opening_within (timetable_in tables.now) day left }
 {
-    if left == 0 {
-        no_event()
-    } else {
-        closing(tables, day - 1, left - 1)
-    }
+    let fewer = left.checked_sub(1)?;
+    closing(tables, day - 1, fewer)
 }
 
 // What a day closes with: its latest event, or what it opened with.
 #[cycle(closing_opening)]
-fn closing(tables: &Tables, day: i32, left: u8) -> EventInForce
+fn closing(tables: &Tables, day: i32, left: u8) -> Option<EventInForce>
     requires from { negsuc 30 ≤ℤ (day -ℤ pos left) }
     requires to { day <ℤ pos 49732 }
     requires seven { left ≤ 7 }
@@ -44,18 +30,13 @@ fn closing(tables: &Tables, day: i32, left: u8) -> EventInForce
 {
     let plan = plan_on(tables, day);
     match latest(tables.events_of(plan)) {
-        Some(event) => EventInForce {
-            plan,
-            number: event.number,
-            days_back: 7 - left,
-            tariff: event.tariff,
-        },
+        Some(event) => Some(EventInForce::of(event, plan, 7 - left)),
         None => opening(tables, day, left),
     }
 }
 
 // The opening event of a day, from seven days back at most.
-pub(crate) fn opening_event(tables: &Tables, day: i32) -> EventInForce
+pub(crate) fn opening_event(tables: &Tables, day: i32) -> Option<EventInForce>
     requires from { negsuc 23 ≤ℤ day }
     requires to { day <ℤ pos 49732 }
     ensures { result ≡ opening_of (timetable_in tables.now) day }

@@ -11,20 +11,14 @@ use tables::{Row, Tables};
 pub(crate) fn number_of(row: Option<Row>) -> u8
     ensures { result ≡ row_number row }
 {
-    match row {
-        Some(row) => row.number,
-        None => 0,
-    }
+    row.map_or(0, |row| row.number)
 }
 
 // With no fitting row, the plan is 0.
 pub(crate) fn plan_of(row: Option<Row>) -> u8
     ensures { result ≡ row_plan row }
 {
-    match row {
-        Some(row) => row.plan,
-        None => 0,
-    }
+    row.map_or(0, |row| row.plan)
 }
 
 // The row of a day.
@@ -36,6 +30,7 @@ pub(crate) fn row_of(tables: &Tables, day: i32) -> Option<Row>
 }
 
 // The plan of a day.
+#[tactic(auto, unfolding(crate::specs::Plans::plan_on))]
 pub(crate) fn plan_on(tables: &Tables, day: i32) -> u8
     requires { InDays day }
     ensures { result ≡ plan_on (timetable_in tables.now) day }

@@ -3,11 +3,11 @@ ghost use Rattle.schedule.specs.RowInForce.{best_row, fits, row_on};
 ghost use Rattle.std.specs.Prelude.{◌≡◌};
 
 use crate::day::Day;
-use keeper::Keeper;
+use keeper::best_of;
 use tables::{Row, has_bit};
 
-fn fits_day(row: Row, day: Day) -> bool
-    ensures { result ≡ fits day.month day.weekday day.date row }
+fn fits_day(row: &Row, day: Day) -> bool
+    ensures { result ≡ fits day.month day.weekday day.date row.now }
 {
     has_bit(row.months, day.month)
         && has_bit(row.weekdays, day.weekday)
@@ -18,14 +18,7 @@ fn fits_day(row: Row, day: Day) -> bool
 fn best_row(rows: &[Row], day: Day) -> Option<Row>
     ensures { result ≡ best_row day.month day.weekday day.date rows.now }
 {
-    let mut narrowest = Keeper::new();
-    for r in rows {
-        let row = *r;
-        if fits_day(row, day) {
-            narrowest.offer(row.counts, row);
-        }
-    }
-    narrowest.best_place()
+    best_of(rows, |row| fits_day(row, day), |row| row.counts)
 }
 
 // The row in force on a day of the calendar.

@@ -4,5 +4,5 @@ use Rattle.schedule.specs.Candidates.{up_to, ahead}
 use Rattle.schedule.specs.Soonest.{SoonestOf}
 use Rattle.schedule.proofs.boundary.soonest_today.Given as goal
 
-abbrev pub invariant-loop-e : goal.invariant-loop-e
-invariant-loop-e l = SoonestOf (up_to (l.t + (86400 - l.time)) ++ flat_map (ahead l.t l.time) (take l.e-index l.events)) l.soonest.best
+abbrev pub invariant-loop-event : goal.invariant-loop-event
+invariant-loop-event l = SoonestOf (up_to (l.t + (86400 - l.time)) ++ flat_map (ahead l.t l.time) (take l.event-index l.events)) l.soonest.best

@@ -1,11 +1,6 @@
-use Rattle.std.proofs.Common.{◌≡◌, true, List, [], ◌∷◌, filter, refl, ap, ◌∙◌}
-use Rattle.schedule.specs.EventInForce.{latest_of}
-use Rattle.tables.specs.declared.event.Event.{Event}
+use Rattle.std.proofs.Common.{true, rules}
+use Rattle.schedule.proofs.Ranks.{latest_of_all}
 use Rattle.schedule.proofs.latest.latest.Goals as goal
 
-all : (es : List Event) → filter (λ _. true) es ≡ es
-all [] = refl
-all (e ∷ es) = ap (λ (xs : List Event). e ∷ xs) (all es)
-
 pub returns : goal.returns
-returns c = c.latest_until.ensures ∙ ap latest_of (all c.args.events.now)
+returns c = latest_of_all _ _ (c.best_of.ensures.answer (λ _. true) (λ event. record { 0 = event.minute }) (λ x r m. search rules) (λ x r m. search rules))

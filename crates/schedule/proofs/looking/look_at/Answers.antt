@@ -1,22 +1,12 @@
-use Rattle.std.proofs.Common.{arith}
+use Rattle.std.proofs.Common.{arith, rules}
 use borrow.Author.Differences.{ints}
 use Rattle.tables.specs.Filled.{timetable_in}
-use Rattle.schedule.proofs.Wholes.{plan_is, whole}
+use Rattle.schedule.proofs.Wholes.{whole}
 use Rattle.schedule.proofs.looking.look_at.Goals as goal
-
-pub event_in_force-event-requires : goal.event_in_force-event-requires
-event_in_force-event-requires c =
-    let from = c.args.moment.from in
-    let to = c.args.moment.to in
-    record {
-      from = omega (arith, ints);
-      to = omega (arith, ints);
-      today = plan_is (timetable_in c.args.tables.now) _ c.row_of-row.result c.plan_of-plan.result c.row_of-row.ensures c.plan_of-plan.ensures;
-    }
 
 pub returns : goal.returns
 returns c =
     whole (timetable_in c.args.tables.now) c.args.second c.args.moment c.args.change
-    _ _ c.row_of-row.result c.plan_of-plan.result c.number_of.result _ c.event_in_force-event.result c.last_second.result
+    _ _ c.row_of-row.result c.plan_of-plan.result c.number_of.result _ c.event_in_force.result c.unwrap_or_default-event.result c.last_second.result
     (omega (arith, ints)) (omega (arith, ints)) c.row_of-row.ensures c.plan_of-plan.ensures c.number_of.ensures
-    c.event_in_force-event.ensures c.events_of.ensures.answer c.last_second.ensures
+    c.event_in_force.ensures (search rules) c.events_of.ensures.answer c.last_second.ensures

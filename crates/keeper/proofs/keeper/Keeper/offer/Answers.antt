@@ -1,10 +1,9 @@
-use Rattle.keeper.proofs.Ranked.{order, kept}
+use Rattle.std.proofs.Common.{rules}
+use Rattle.keeper.proofs.Ranked.{kept}
 use Rattle.keeper.proofs.keeper.Keeper.offer.Goals as goal
 
-pub returns : goal.returns
-returns g c =
-    record {
-      after =
-          kept g.K.Rank.better (order g.K.Rank.better g.met.K.Rank.irreflexive g.met.K.Rank.transitive g.met.K.Rank.total)
-          c.args.self.now.best c.keep.new.self.best (record { rank = c.args.rank; place = c.args.place }) c.keep.ensures.after;
-    }
+pub returns-then-is_none_or : goal.returns-then-is_none_or
+returns-then-is_none_or g c = record { after = kept g.K.Ord.cmp g.met.K.Ord.total _ _ _ (search (rules, g.met.K.Ord.matches_partial_cmp)) }
+
+pub returns-else-is_none_or : goal.returns-else-is_none_or
+returns-else-is_none_or g c = record { after = kept g.K.Ord.cmp g.met.K.Ord.total _ _ _ (search (rules, g.met.K.Ord.matches_partial_cmp)) }
