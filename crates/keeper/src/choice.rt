@@ -16,6 +16,7 @@ where
     requires rank { R.IsAlwaysCallable rank }
     ensures answer { (test : X → Bool) (key : X → K) → Returns P.Fn passes test → Returns R.Fn rank key → result ≡ first_best (λ x y. is_lt (K.cmp (key x) (key y))) (filter test things.now) }
 {
+    // By a rule of the project a keeper holds the best, where std has `min_by_key`.
     let mut keeper = Keeper::new();
     for thing in things {
         if passes(thing) {

@@ -29,6 +29,7 @@ fn closing(tables: &Tables, day: i32, left: u8) -> Option<EventInForce>
     ensures { result ≡ closing_within (timetable_in tables.now) day left }
 {
     let plan = plan_on(tables, day);
+    // No `or_else`: calls that lead back to this function go through no closure.
     match latest(tables.events_of(plan)) {
         Some(event) => Some(EventInForce::of(event, plan, 7 - left)),
         None => opening(tables, day, left),
