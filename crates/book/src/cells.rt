@@ -27,7 +27,7 @@ fn kept_in<'a>(words: &'a mut [u32], calls: &[Call]) -> &'a mut [u32]
     let mut book = Engine::new(clock, WordStore::new(words), NoSummer);
     enter_each(&mut book, calls);
     let (_, store, _) = book.into_parts();
-    store.into_words()
+    store.into_memory()
 }
 
 // Enters each call. What it answers is let go: a book is not fed answers.

@@ -72,7 +72,7 @@ fn lived<'a, C: SettableClock + Drop>(
     let mut engine = Engine::new(clock, ImageStore::new(image), Europe);
     let n = live_each(&mut engine, steps, orders, answers);
     let (_, store, _) = engine.into_parts();
-    (n, store.into_bytes())
+    (n, store.into_memory())
 }
 
 fn lived_on<C: SettableClock + Drop>(

@@ -19,7 +19,7 @@ fn opened<'a>(image: &'a mut [u8]) -> (Tables, &'a mut [u8])
     ensures home { result.1.ghost_name ≡ image.entry.ghost_name }
 {
     let store = ImageStore::new(image);
-    (tables_of(&store), store.into_bytes())
+    (tables_of(&store), store.into_memory())
 }
 
 // The look under the law of a number: 1 is Europe's, 2 is America's, every other is none.

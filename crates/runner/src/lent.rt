@@ -28,5 +28,5 @@ fn image_after<'a>(image: &'a mut [u8], order: &[u8]) -> (Result<(), Stopped>, &
     let mut engine = Engine::new(InstantClock::new(0), ImageStore::new(image), NoSummer);
     let answer = run(&mut engine, order);
     let (_, store, _) = engine.into_parts();
-    (answer, store.into_bytes())
+    (answer, store.into_memory())
 }
