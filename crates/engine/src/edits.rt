@@ -31,9 +31,7 @@ impl<C: Clock, S: Store, R: SummerRule> Engine<C, S, R> {
         ensures after { state_of S.cells self.new ≡ step (state_of S.cells self.old) (Put c v) }
         ensures same { OnlyEdit self.old self.new }
     {
-        let Some(mut edit) = self.edit else {
-            return Err(Refusal::NoEdit);
-        };
+        let mut edit = self.edit.ok_or(Refusal::NoEdit)?;
         if c >= self.store.size() {
             return Err(Refusal::NoCell);
         }
@@ -48,17 +46,13 @@ impl<C: Clock, S: Store, R: SummerRule> Engine<C, S, R> {
         ensures after { state_of S.cells self.new ≡ step (state_of S.cells self.old) Check }
         ensures same { OnlyEdit self.old self.new }
     {
-        let Some(mut edit) = self.edit else {
-            return Err(Refusal::NoEdit);
-        };
-        match edit.fault_in(&self.store) {
-            Some(fault) => Err(fault.into()),
-            None => {
-                edit.mark();
-                self.edit = Some(edit);
-                Ok(())
-            }
+        let mut edit = self.edit.ok_or(Refusal::NoEdit)?;
+        if let Some(fault) = edit.fault_in(&self.store) {
+            return Err(fault.into());
         }
+        edit.mark();
+        self.edit = Some(edit);
+        Ok(())
     }
 
     // Writes a checked edit into the store and closes it; an unchecked one is discarded.
@@ -68,16 +62,12 @@ impl<C: Clock, S: Store, R: SummerRule> Engine<C, S, R> {
         ensures same { OnlyCells S.memory self.old self.new }
     {
         ticket.spend();
-        match self.edit.take() {
-            None => Err(Refusal::NoEdit),
-            Some(edit) => {
-                if !edit.marked() {
-                    return Err(Refusal::NotChecked);
-                }
-                edit.write_into(&mut self.store);
-                Ok(())
-            }
+        let edit = self.edit.take().ok_or(Refusal::NoEdit)?;
+        if !edit.marked() {
+            return Err(Refusal::NotChecked);
         }
+        edit.write_into(&mut self.store);
+        Ok(())
     }
 
     // Closes the edit unwritten.
@@ -96,9 +86,7 @@ impl<C: Clock, S: Store, R: SummerRule> Engine<C, S, R> {
         ensures after { state_of S.cells self.new ≡ step (state_of S.cells self.old) Discard }
         ensures same { OnlyEdit self.old self.new }
     {
-        match self.edit.take() {
-            None => Err(Refusal::NoEdit),
-            Some(_) => Ok(()),
-        }
+        self.edit.take().ok_or(Refusal::NoEdit)?;
+        Ok(())
     }
 }

@@ -21,7 +21,7 @@ pub trait Yearly {
     ghost ascending: { Ascending from until };
 }
 
-// The first year whose summer has not ended, by halves.
+// The first year whose summer has not ended, by halves: the ends are worked out year by year, so there is no slice for `partition_point`.
 fn year_of<L: Yearly>(t: i64) -> u32
     requires { t ≤ℤ pos 4295010495 }
     ensures { Current L.Yearly.until t result }
