@@ -13,6 +13,7 @@ pub fn decode(heap: Global, image: &[u8]) -> Result<Vec<u32>, AllocError>
     ensures trip { image_of (image_cells image.now) ++ image_rest image.now ≡ image.now }
 {
     let mut cells = Vec::new(heap);
+    // a loop, since over `map_while(..).collect(heap)` the goal `returns-clause-answer` stayed open
     for c in 0..Image::count(image) {
         cells.push(read_cell(image, c))?;
     }

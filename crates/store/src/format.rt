@@ -23,7 +23,8 @@ pub trait Format {
     // What every format keeps of these.
     ghost laws: { FormatLaws cells width };
 
-    // What holds of every memory: the cells and what lies past them are all of it.
+    // What holds of every memory: the cells and what lies past them are all of it. It does nothing: the check knows of a
+    // slice that is passed on that each unit is one of its type.
     fn known(memory: &[Self::Unit])
         ensures each { Held memory.now }
         ensures whole { made (cells memory.now) (rest memory.now) ≡ memory.now };
