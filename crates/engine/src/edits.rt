@@ -31,13 +31,11 @@ impl<C: Clock, S: Store, R: SummerRule> Engine<C, S, R> {
         ensures after { state_of S.cells self.new ≡ step (state_of S.cells self.old) (Put c v) }
         ensures same { OnlyEdit self.old self.new }
     {
-        let mut edit = self.edit.ok_or(Refusal::NoEdit)?;
+        let edit = self.edit.as_mut().ok_or(Refusal::NoEdit)?;
         if c >= self.store.size() {
             return Err(Refusal::NoCell);
         }
-        let answer = edit.put(c, v);
-        self.edit = Some(edit);
-        answer
+        edit.put(c, v)
     }
 
     // Examines the tables as they would stand after the commit, and marks a good edit.
@@ -46,12 +44,11 @@ impl<C: Clock, S: Store, R: SummerRule> Engine<C, S, R> {
         ensures after { state_of S.cells self.new ≡ step (state_of S.cells self.old) Check }
         ensures same { OnlyEdit self.old self.new }
     {
-        let mut edit = self.edit.ok_or(Refusal::NoEdit)?;
+        let edit = self.edit.as_mut().ok_or(Refusal::NoEdit)?;
         if let Some(fault) = edit.fault_in(&self.store) {
             return Err(fault.into());
         }
         edit.mark();
-        self.edit = Some(edit);
         Ok(())
     }
 
