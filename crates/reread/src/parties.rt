@@ -8,7 +8,7 @@ ghost use Rattle.store.specs.Words.{word_cells};
 ghost use Rattle.summer.specs.Laws.{europe};
 
 use archive::{Parts, confirm};
-use clock::{Clock, CounterClock, InstantClock};
+use clock::{CounterClock, InstantClock};
 use history::{Answer, Call};
 use image::ImageStore;
 use layers::Vouching;
@@ -35,24 +35,10 @@ pub(crate) fn looks(
         rule: Europe,
     };
     let reader = Parts {
-        clock: clock_at(time),
+        clock: InstantClock::from(time),
         store: WordStore::new(cells),
         rule: Europe,
     };
     let outcome = confirm(meter, calls, answers, reader);
     (outcome.shown, outcome.read)
-}
-
-// A clock that shows this time, or none.
-fn clock_at(time: Option<u32>) -> InstantClock
-    ensures { result.second ≡ time }
-{
-    match time {
-        Some(second) => InstantClock::new(second),
-        None => {
-            let mut clock = InstantClock::new(0);
-            clock.pass(1);
-            clock
-        }
-    }
 }
