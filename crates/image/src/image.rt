@@ -3,6 +3,7 @@ ghost use Rattle.layout.specs.Layout.{width as cellWidth};
 ghost use Rattle.image.specs.Image.{Bytes, image_cells, image_of, image_rest};
 ghost use Rattle.image.specs.Laws.{image_laws};
 
+use crate::numbers::read_number;
 use layout::{CELLS, place, width};
 use store::{Format, LentStore};
 
@@ -65,8 +66,6 @@ pub(crate) fn read_cell(bytes: &[u8], c: u32) -> u32
     ensures { result ≡ slice_index (image_cells bytes.now) c }
 {
     let at = place(c);
-    let n = width(c);
-    let mut number = [0; 4];
-    number[4 - n..].copy_from_slice(&bytes[at..at + n]);
-    u32::from_be_bytes(number)
+    let end = at + width(c);
+    read_number(&bytes[at..end])
 }
