@@ -1,8 +1,9 @@
 ghost use Rattle.layout.specs.Layout.{event_count, plan_count};
-ghost use Rattle.std.specs.Prelude.{◌≡◌, map};
+ghost use Rattle.std.specs.Prelude.{◌≡◌, ℕ, Bool, map, not};
+ghost use Rattle.std.specs.Fn.{FnReturnsAt};
 ghost use Rattle.checks.specs.Words.{numbers, first_failing, reading};
 ghost use Rattle.std.specs.Option.{option_map};
-ghost use Rattle.checks.specs.Rules.{counts, start_of, clashes, row_whole, row_served, plan_counts, starts_twice, starts_alone, good, named, cell_places, row_places, plan_places, event_places, first_fault, FirstPlace};
+ghost use Rattle.checks.specs.Rules.{Place, counts, start_of, clashes, row_whole, row_served, plan_counts, starts_twice, starts_alone, good, named, cell_places, row_places, plan_places, event_places, first_fault, FirstPlace};
 ghost use Rattle.checks.specs.Rules.Place.{event_at};
 
 use crate::fault::Fault;
@@ -11,6 +12,7 @@ use layout::{
 };
 use refusal::Rule;
 
+// The cells stay the one parameter `t`: a struct round them would hold nothing else, and say `self.cells` for it.
 fn counts_in(t: &Cells, p: u8, e: u8) -> bool
     ensures { result ≡ counts (reading t.now) p e }
 {
@@ -70,44 +72,62 @@ fn starts_alone(t: &Cells, p: u8, e: u8) -> bool
     !(counts_in(t, p, e) && starts_twice(t, p, e))
 }
 
+// By itself, since cells count from 0 and are too many for a number of a row.
 fn bad_cell(t: &Cells) -> Option<Fault>
     ensures { result ≡ option_map named (first_failing (good (reading t.now)) cell_places) }
 {
-    (0..CELLS)
-        .find(|c| !in_range(*c, cell_at(t, *c)))
-        .map(|cell| Fault {
-            rule: Rule::CellInRange,
-            cell,
-        })
+    let cell = (0..CELLS).find(|c| !in_range(*c, cell_at(t, *c)))?;
+    Some(Fault {
+        rule: Rule::CellInRange,
+        cell,
+    })
+}
+
+// Of the numbers from 1 to a last one, the first that fails a rule, with the cell that is named.
+fn first_bad<F: Fn(&u8) -> bool, C: Fn(u8) -> u32>(
+    rule: Rule,
+    last: u8,
+    fails: F,
+    cell: C,
+) -> Option<Fault>
+    requires tests { F.IsAlwaysCallable fails }
+    requires names { C.IsAlwaysCallable cell }
+    ensures { (t : ℕ → ℕ) (at : ℕ → Place) → ((n : ℕ) (b : Bool) → FnReturnsAt F.Fn fails n b → b ≡ not (good t (at n))) → ((n c : ℕ) → C.post cell n c → record { rule = rule; cell = c } ≡ named (at n)) → result ≡ option_map named (first_failing (good t) (map at (numbers 1 last))) }
+{
+    let n = (1..=last).find(fails)?;
+    Some(Fault {
+        rule,
+        cell: cell(n),
+    })
 }
 
 fn bad_row(t: &Cells) -> Option<Fault>
     ensures { result ≡ option_map named (first_failing (good (reading t.now)) row_places) }
 {
-    (1..=ROWS).find(|r| !row_whole(t, *r)).map(|r| Fault {
-        rule: Rule::RowWhole,
-        cell: row_cell(r),
-    })
+    // a closure, since `row_cell` of another crate gets no proof where it is passed by name
+    first_bad(Rule::RowWhole, ROWS, |r| !row_whole(t, *r), |r| row_cell(r))
 }
 
 fn bad_plan(t: &Cells) -> Option<Fault>
     ensures { result ≡ option_map named (first_failing (good (reading t.now)) plan_places) }
 {
-    (1..=ROWS).find(|r| !row_served(t, *r)).map(|r| Fault {
-        rule: Rule::RowServed,
-        cell: row_cell(r),
-    })
+    first_bad(
+        Rule::RowServed,
+        ROWS,
+        |r| !row_served(t, *r),
+        |r| row_cell(r),
+    )
 }
 
 fn bad_start(t: &Cells, p: u8) -> Option<Fault>
     ensures { result ≡ option_map named (first_failing (good (reading t.now)) (map (event_at p) (numbers 1 event_count))) }
 {
-    (1..=EVENTS)
-        .find(|e| !starts_alone(t, p, *e))
-        .map(|e| Fault {
-            rule: Rule::StartAlone,
-            cell: event_cell(p, e),
-        })
+    first_bad(
+        Rule::StartAlone,
+        EVENTS,
+        |e| !starts_alone(t, p, *e),
+        |e| event_cell(p, e),
+    )
 }
 
 fn bad_event(t: &Cells) -> Option<Fault>
