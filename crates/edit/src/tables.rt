@@ -1,6 +1,7 @@
 ghost use Rattle.checks.specs.Words.{reading};
 ghost use Rattle.std.specs.Prelude.{◌≡◌, slice_index};
 
+use layout::Cells;
 use std::array;
 use store::Store;
 
@@ -12,7 +13,7 @@ fn cell_or_zero<S: Store>(store: &S, c: u32) -> u32
 }
 
 // A store's cells, copied; a cell past the size reads 0.
-pub fn copied<S: Store>(store: &S) -> [u32; 706]
+pub fn copied<S: Store>(store: &S) -> Cells
     ensures { reading result ≡ reading (S.cells store.now) }
 {
     array::from_fn(|c| cell_or_zero(store, c as u32))
