@@ -26,7 +26,7 @@ pub enum Field {
 
 impl Field {
     // Whether the value is one that the field may have: and then it fits the field's bytes.
-    #[tactic(auto, using(crate::proofs::Fields::field_fits))]
+    #[tactic(auto, using(crate::proofs::Fields::field_fits, crate::proofs::Masks::mask_ranges))]
     pub fn allows(self, v: u32) -> bool
         ensures answer { result ≡ allows self v }
         ensures fits { result ≡ true → v < 256 ^ width_of self }
