@@ -10,7 +10,7 @@ use crate::list::{DayPlan, Listed, Rows};
 use crate::row::Row;
 use crate::tables::Tables;
 use keeper::Counts;
-use layout::{event_cell, event_counts, row_cell};
+use layout::{cell_at, event_cell, event_counts, row_cell};
 use std::array;
 
 // What stands in the free places of a list.
@@ -47,13 +47,6 @@ fn numbered_in<T: Copy, const N: usize, F: Fn(u8) -> Option<T>>(blank: T, at: F)
         }
     }
     things
-}
-
-// A cell beyond the list is 0.
-fn cell_at(cells: &[u32], c: u32) -> u32
-    ensures { result ≡ cell_at cells.now c }
-{
-    cells.get(c as usize).copied().unwrap_or(0)
 }
 
 fn counting_row(number: u8, months: u32, weekdays: u32, dates: u32, plan: u32) -> Option<Row>

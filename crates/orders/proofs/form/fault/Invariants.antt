@@ -1,6 +1,6 @@
 use Rattle.std.proofs.Common.{◌≡◌, ◌-◌, ◌≤◌, length}
 use Rattle.orders.specs.Form.{form, reads_on, fault_of}
-use Rattle.orders.proofs.form.first_fault.Given as goal
+use Rattle.orders.proofs.form.fault.Given as goal
 
 -- what is left gives the fault of the whole
 abbrev pub invariant-loop-command : goal.invariant-loop-command
