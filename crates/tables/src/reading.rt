@@ -13,33 +13,13 @@ use keeper::Counts;
 use layout::{event_cell, event_counts, row_cell};
 use std::array;
 
-// What stands in the free places of a list.
-const NO_ROW: Row = Row {
-    number: 0,
-    months: 0,
-    weekdays: 0,
-    dates: 0,
-    plan: 0,
-    counts: Counts {
-        months: 0,
-        dates: 0,
-        weekdays: 0,
-    },
-};
-
-const NO_EVENT: Event = Event {
-    number: 0,
-    minute: 0,
-    tariff: 0,
-};
-
 // The things with the numbers 1 to N that are there, in ascending number.
-fn numbered_in<T: Copy, const N: usize, F: Fn(u8) -> Option<T>>(blank: T, at: F) -> Listed<T, N>
+fn numbered_in<T: Copy + Default, const N: usize, F: Fn(u8) -> Option<T>>(at: F) -> Listed<T, N>
     requires few { N < 256 }
     requires callable { F.IsAlwaysCallable at }
     ensures { (there : ℕ → Option T) → ((k : ℕ) (thing : Option T) → F.post at k thing → thing ≡ there k) → things_in result ≡ numbered there N }
 {
-    let mut things = Listed::new(blank);
+    let mut things = Listed::new();
     // a loop, since over `filter_map(at)` the goal `push-requires` stayed open
     for before in 0..N as u8 {
         if let Some(thing) = at(before + 1) {
@@ -96,7 +76,7 @@ fn row_at(cells: &[u32], number: u8) -> Option<Row>
 fn rows_in(cells: &[u32]) -> Rows
     ensures { things_in result ≡ numbered (row_at (cell_at cells.now)) 32 }
 {
-    numbered_in(NO_ROW, |number| row_at(cells, number))
+    numbered_in(|number| row_at(cells, number))
 }
 
 fn counting_event(number: u8, hour: u32, minute: u32, tariff: u32) -> Option<Event>
@@ -129,7 +109,7 @@ fn event_at(cells: &[u32], plan: u8, number: u8) -> Option<Event>
 fn events_in(cells: &[u32], plan: u8) -> DayPlan
     ensures { things_in result ≡ numbered (event_at (cell_at cells.now) plan) 12 }
 {
-    numbered_in(NO_EVENT, |number| event_at(cells, plan, number))
+    numbered_in(|number| event_at(cells, plan, number))
 }
 
 // The counting events of a plan; plan 0 has none.
@@ -137,7 +117,7 @@ fn plan_in(cells: &[u32], plan: u8) -> DayPlan
     ensures { things_in result ≡ plan_at (cell_at cells.now) plan }
 {
     if plan == 0 {
-        DayPlan::new(NO_EVENT)
+        DayPlan::new()
     } else {
         events_in(cells, plan)
     }
