@@ -21,8 +21,8 @@ fn numbered_in<T: Copy + Default, const N: usize, F: Fn(u8) -> Option<T>>(at: F)
 {
     let mut things = Listed::new();
     // a loop, since over `filter_map(at)` the goal `push-requires` stayed open
-    for before in 0..N as u8 {
-        if let Some(thing) = at(before + 1) {
+    for number in 1..=N as u8 {
+        if let Some(thing) = at(number) {
             things.push(thing);
         }
     }
