@@ -4,7 +4,7 @@ ghost use Rattle.tables.specs.Filled.{timetable_in};
 ghost use Rattle.schedule.specs.Openings.{closing_within, opening_within};
 
 use crate::latest::latest;
-use crate::plans::plan_on;
+use crate::row_in_force::row_on;
 use crate::shown::EventInForce;
 use tables::Tables;
 
@@ -28,7 +28,7 @@ fn closing(tables: &Tables, day: i32, left: u8) -> Option<EventInForce>
     requires seven { left ≤ 7 }
     ensures { result ≡ closing_within (timetable_in tables.now) day left }
 {
-    let plan = plan_on(tables, day);
+    let plan = row_on(tables, day).plan;
     // No `or_else`: calls that lead back to this function go through no closure.
     match latest(tables.events_of(plan)) {
         Some(event) => Some(EventInForce::of(event, plan, 7 - left)),
