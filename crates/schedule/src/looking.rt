@@ -1,9 +1,10 @@
+ghost use Rattle.schedule.specs.Days.{Reaches};
 ghost use Rattle.schedule.specs.EventInForce.{event_in_force};
 ghost use Rattle.tables.specs.Filled.{timetable_in};
 ghost use Rattle.schedule.specs.Looks.{look_of};
 ghost use Rattle.schedule.specs.Moments.{LookFrom};
 ghost use Rattle.schedule.specs.Plans.{plan_on};
-ghost use Rattle.std.specs.Prelude.{◌≡◌, pos, negsuc, ◌≤ℤ◌, ◌<ℤ◌};
+ghost use Rattle.std.specs.Prelude.{◌≡◌};
 
 use crate::answer::Look;
 use crate::boundary::last_second;
@@ -18,8 +19,7 @@ use tables::Tables;
 
 // The latest of today's events that have started, or the day's opening event.
 fn event_in_force(tables: &Tables, day: i32, plan: u8, time: u32) -> Option<EventInForce>
-    requires from { negsuc 23 ≤ℤ day }
-    requires to { day <ℤ pos 49732 }
+    requires week { Reaches day 7 }
     requires today { plan ≡ plan_on (timetable_in tables.now) day }
     ensures { result ≡ event_in_force (timetable_in tables.now) day time }
 {

@@ -1,6 +1,6 @@
-ghost use Rattle.std.specs.Prelude.{◌≡◌, ℕ, ◌<◌, ◌≤◌, map, Option, pos, negsuc, ◌≤ℤ◌};
+ghost use Rattle.std.specs.Prelude.{◌≡◌, ℕ, ◌<◌, ◌≤◌, map, Option};
 ghost use Rattle.tables.specs.Bits.{bits_in};
-ghost use Rattle.tables.specs.Cells.{cell_at, counting_event, counting_row, event_at, offset_of, plan_at, plans_at, row_at, row_of, SameCells, timetable};
+ghost use Rattle.tables.specs.Cells.{cell_at, counting_event, counting_row, event_at, offset_of, InZone, plan_at, plans_at, row_at, row_of, SameCells, timetable};
 ghost use Rattle.tables.specs.Filled.{things_in, timetable_in};
 ghost use Rattle.tables.specs.Numbered.{numbered};
 
@@ -126,8 +126,7 @@ fn plan_in(cells: &[u32], plan: u8) -> DayPlan
 // The zone cell less 43,200, or 0 if it exceeds 86,400.
 fn offset_of(zone: u32) -> i32
     ensures answer { result ≡ offset_of zone }
-    ensures west { negsuc 43199 ≤ℤ result }
-    ensures east { result ≤ℤ pos 43200 }
+    ensures zone { InZone result }
 {
     if zone <= 86400 {
         zone as i32 - 43200
