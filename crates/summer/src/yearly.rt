@@ -1,6 +1,6 @@
-ghost use Rattle.std.specs.Prelude.{◌≡◌, ℕ, ◌<◌, ◌≤◌, pos, negsuc, ◌+ℤ◌, ◌≤ℤ◌};
+ghost use Rattle.std.specs.Prelude.{◌≡◌, ℕ, ◌<◌, ◌≤◌, pos, ◌+ℤ◌, ◌≤ℤ◌};
 ghost use Rattle.keeper.specs.Least.{changes, least_later};
-ghost use Rattle.summer.specs.Zone.{zone};
+ghost use Rattle.summer.specs.Zone.{InZone, zone};
 ghost use Rattle.summer.specs.Years.{Ascending, Current, summer_at};
 
 // A law that gives each year a first and a last moment of summer, in seconds of its own time.
@@ -57,8 +57,7 @@ fn second_of(t: i64, offset: i64) -> u32
 }
 
 pub(crate) fn next_end<L: Yearly>(offset: i64, second: u32) -> Option<u32>
-    requires from { negsuc 43199 ≤ℤ offset }
-    requires to { offset ≤ℤ pos 43200 }
+    requires { InZone offset }
     ensures { result ≡ least_later (changes (λ s. summer_at L.Yearly.from L.Yearly.until (pos s +ℤ offset))) second 4294967295 }
 {
     let t = i64::from(second) + offset;
@@ -75,8 +74,7 @@ pub(crate) fn next_end<L: Yearly>(offset: i64, second: u32) -> Option<u32>
 
 pub(crate) fn zone_of(offset: i32) -> i64
     ensures value { result ≡ zone offset }
-    ensures from { negsuc 43199 ≤ℤ result }
-    ensures to { result ≤ℤ pos 43200 }
+    ensures near { InZone result }
 {
     if offset < -43200 || offset > 43200 {
         0
