@@ -1,4 +1,4 @@
-ghost use Rattle.std.specs.Prelude.{pos, negsuc, ◌≤ℤ◌};
+ghost use Rattle.tables.specs.Cells.{InZone};
 
 use crate::list::{DayPlan, Rows};
 
@@ -9,6 +9,5 @@ pub struct Tables {
     pub summer: bool,
     pub(crate) rows: Rows,
     pub(crate) plans: [DayPlan; 17],
-    ghost west: { negsuc 43199 ≤ℤ offset },
-    ghost east: { offset ≤ℤ pos 43200 },
+    ghost zone: { InZone offset },
 }

@@ -45,4 +45,4 @@ returns g c =
     let end : pos c.second_of-2.result +ℤ c.args.offset ≡ pos (g.L.Yearly.until y) = omega (arith, ints) in
     let cur = moved t c.year_of-y.ensures (omega (arith, ints)) in
     sym (end_at g.L.Yearly.from g.L.Yearly.until g.met.L.Yearly.ascending c.args.offset c.args.second y cur
-    c.second_of-2.result 4294967295 (small c.args.offset c.requires.to) warm end (in_limit c.second_of-2.result c.second_of-2.type_inv))
+    c.second_of-2.result 4294967295 (small c.args.offset c.requires.east) warm end (in_limit c.second_of-2.result c.second_of-2.type_inv))
