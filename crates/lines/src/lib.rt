@@ -10,10 +10,9 @@ use std::io::Write;
 
 // The line `short` for a cut image; else a line for each whole second behind it, high byte first, under the European law.
 pub fn write_lines<W: Write>(input: &mut [u8], out: &mut W) -> io::Result<()> {
-    if input.len() < IMAGE_BYTES {
+    let Some((image, seconds)) = input.split_at_mut_checked(IMAGE_BYTES) else {
         return writeln!(out, "short");
-    }
-    let (image, seconds) = input.split_at_mut(IMAGE_BYTES);
+    };
     let tables = tables_in(image);
     let (seconds, _) = seconds.as_chunks::<4>();
     for bytes in seconds {
