@@ -22,13 +22,19 @@ module _ (z : Timetable) (d : ℤ) (s p : ℕ) (es : List Event) (today : p ≡ 
   unfolding event_in_force
   in_force_lem o h = ap (latest_or z d) (h ∙ ap (λ (xs : List Event). latest_of (started_by s xs)) events)
 
+  pub started : (e : Event) → Some e ≡ latest_of (started_by s es) → Some (event_of p 0 e) ≡ event_in_force z d s
+  started e h = ap (λ (q : ℕ). Some (event_of q 0 e)) today ∙ in_force_lem (Some e) h
+
+  pub opened : (r : Option EventInForce) → r ≡ opening_of z d → None ≡ latest_of (started_by s es) → r ≡ event_in_force z d s
+  opened r e h = e ∙ in_force_lem None h
+
   -- the latest event that has started, as Of makes it one in force, or what Opens gives
   pub in_force_by : (Of : Event → EventInForce → Type 0) (Opens : Type 0) (o : Option Event) (of r : Option EventInForce) → o ≡ latest_of (started_by s es)
       → ((x : Event) (y : EventInForce) → Of x y → y ≡ event_of p 0 x) → (Opens → r ≡ opening_of z d)
       → MatchOption o (of ≡ None) (λ x. IsSomeAnd of (Of x)) → MatchOption of Opens (λ y. r ≡ Some y) → r ≡ event_in_force z d s
   in_force_by Of Opens None (Some y) r h f g a b = cc
-  in_force_by Of Opens None None r h f g a b = g b ∙ in_force_lem None h
-  in_force_by Of Opens (Some x) (Some y) r h f g a b = b ∙ (ap Some (f x y a) ∙ (ap (λ (q : ℕ). Some (event_of q 0 x)) today ∙ in_force_lem (Some x) h))
+  in_force_by Of Opens None None r h f g a b = opened r (g b) h
+  in_force_by Of Opens (Some x) (Some y) r h f g a b = b ∙ (ap Some (f x y a) ∙ started x h)
   in_force_by Of Opens (Some x) None r h f g a b = absurd a
 
 module _ (z : Timetable) (t : ℕ) (m : Moment) (change : Option ℕ) (local d : ℤ) (p n : ℕ) (es : List Event) where

@@ -5,6 +5,7 @@ use keeper::best_of;
 use std::cmp::Reverse;
 use tables::Event;
 
+// The later start ranks first.
 fn by_start(event: &Event) -> Reverse<u16>
     ensures { result ≡ record { 0 = event.now.minute } }
 {

@@ -4,7 +4,8 @@ use crate::event::Event;
 use crate::row::Row;
 use std::alloc::AllocError;
 
-// At most N things, in sequence. Not the kit's `arrayvec`, which is not `Copy`: tables are copied as they are.
+// At most N things, in sequence.
+// Not the kit's `arrayvec`, which is not `Copy`: tables are copied as they are.
 #[derive(Drop)]
 pub struct Listed<T, const N: usize> {
     pub(crate) places: [T; N],
