@@ -56,6 +56,7 @@ pub fn perform<C: SettableClock, S: Store, R: SummerRule>(
 }
 
 // Makes the calls in turn while there is a place for the answer, and answers how many it made.
+// The count and what stays are two equations: a record of them would take the same four arguments, here and at every other such function.
 pub fn live<C: SettableClock, S: Store, R: SummerRule>(
     engine: &mut Engine<C, S, R>,
     calls: &[Call],
@@ -67,6 +68,7 @@ pub fn live<C: SettableClock, S: Store, R: SummerRule>(
 {
     let n = calls.len().min(answers.len());
     let made = &calls[..n];
+    // By its place: of what a zip with iter_mut writes, a proof knows nothing.
     for (place, call) in made.iter().enumerate() {
         answers[place] = perform(engine, *call);
     }
