@@ -43,8 +43,11 @@ impl Format for Image {
         c < CELLS && place(c) + width(c) <= bytes.len()
     }
 
-    fn read(bytes: &[u8], c: u32) -> Option<u32> {
-        Self::has(bytes, c).then(|| read_cell(bytes, c))
+    #[tactic(auto, using(crate::proofs::Placed::bound))]
+    fn read(bytes: &[u8], c: u32) -> u32 {
+        let at = place(c);
+        let end = at + width(c);
+        read_number(&bytes[at..end])
     }
 
     fn holds(c: u32, v: u32) -> bool {
@@ -57,15 +60,4 @@ impl Format for Image {
         let n = width(c);
         bytes[at..at + n].copy_from_slice(&v.to_be_bytes()[4 - n..]);
     }
-}
-
-// What a cell holds.
-#[tactic(auto, using(crate::proofs::Placed::bound))]
-pub(crate) fn read_cell(bytes: &[u8], c: u32) -> u32
-    requires { c < length (image_cells bytes.now) }
-    ensures { result ≡ slice_index (image_cells bytes.now) c }
-{
-    let at = place(c);
-    let end = at + width(c);
-    read_number(&bytes[at..end])
 }

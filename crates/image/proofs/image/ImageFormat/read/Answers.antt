@@ -1,7 +1,7 @@
 use Rattle.std.proofs.Common.{◌∙◌, arith}
 use Rattle.std.proofs.lemmas.List.{length-drop, length-take}
 use Rattle.image.proofs.Placed.{read_at}
-use Rattle.image.proofs.image.read_cell.Goals as goal
+use Rattle.image.proofs.image.ImageFormat.read.Goals as goal
 
 pub read_number-requires : goal.read_number-requires
 read_number-requires c = simp (length-take, length-drop) (omega arith)
