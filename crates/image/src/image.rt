@@ -45,9 +45,9 @@ impl Format for Image {
 
     #[tactic(auto, using(crate::proofs::Placed::bound))]
     fn read(bytes: &[u8], c: u32) -> u32 {
-        let at = place(c);
-        let end = at + width(c);
-        read_number(&bytes[at..end])
+        let start = place(c);
+        let end = start + width(c);
+        read_number(&bytes[start..end])
     }
 
     fn holds(c: u32, v: u32) -> bool {

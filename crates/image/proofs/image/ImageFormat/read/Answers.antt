@@ -7,4 +7,4 @@ pub read_number-requires : goal.read_number-requires
 read_number-requires c = simp (length-take, length-drop) (omega arith)
 
 pub returns : goal.returns
-returns c = c.read_number.ensures ∙ read_at c.args.bytes.now c.args.c c.requires _ _ c.place-at.ensures.answer (omega arith)
+returns c = c.read_number.ensures ∙ read_at c.args.bytes.now c.args.c c.requires _ _ c.place-start.ensures.answer (omega arith)
