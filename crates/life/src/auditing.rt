@@ -16,7 +16,7 @@ pub fn audit<W: Write>(heap: Global, input: &mut [u8], out: &mut W) -> anyhow::R
     let text = String::from_utf8_lossy(heap, lines)?;
     match Life::read(heap, text.as_str()) {
         Ok(life) => live_and_report(heap, image, &life, text.as_str(), out),
-        Err(NotALife::NoMemory(_)) => Err(anyhow!("no memory")),
+        Err(NotALife::NoMemory) => Err(anyhow!("no memory")),
         Err(why) => {
             writeln!(out, "{why}")?;
             Ok(())

@@ -1,8 +1,8 @@
 use crate::step::Step;
 use hex::FromHexError;
 use history::Call;
-use std::alloc::{AllocError, Global};
-use thiserror::Error;
+use std::alloc::{AllocError, AllocFailed, Global};
+use std::fmt;
 
 // The calls of a life, in their order.
 #[derive(Drop)]
@@ -11,12 +11,32 @@ pub struct Life {
 }
 
 // Why a text is no life: a line that is no call, counted from 1, or want of memory.
-#[derive(Debug, Drop, Error)]
+#[derive(Clone, Copy, Debug)]
 pub enum NotALife {
-    #[error("line {0} cannot be read")]
     Line(usize),
-    #[error("no memory")]
-    NoMemory(#[from(alloc)] AllocError),
+    NoMemory,
+}
+
+// Written out, since what `thiserror` derives for is not Copy.
+impl fmt::Display for NotALife {
+    fn fmt<W: fmt::Write>(&self, f: &mut fmt::Formatter<W>) -> fmt::Result {
+        match self {
+            NotALife::Line(number) => write!(f, "line {number} cannot be read"),
+            NotALife::NoMemory => write!(f, "no memory"),
+        }
+    }
+}
+
+impl From<AllocError> for NotALife {
+    fn from(_e: AllocError) -> NotALife {
+        NotALife::NoMemory
+    }
+}
+
+impl<T: Drop> From<AllocFailed<T>> for NotALife {
+    fn from(_e: AllocFailed<T>) -> NotALife {
+        NotALife::NoMemory
+    }
 }
 
 impl Life {
@@ -85,7 +105,7 @@ fn plain_call(name: &str, first: Option<&str>, second: Option<&str>) -> Option<C
 fn run_step(heap: Global, digits: &str) -> Result<Option<Step>, NotALife> {
     match hex::decode(heap, digits) {
         Ok(order) => Ok(Some(Step::Run(order))),
-        Err(FromHexError::OutOfMemory) => Err(NotALife::NoMemory(AllocError)),
+        Err(FromHexError::OutOfMemory) => Err(NotALife::NoMemory),
         Err(_) => Ok(None),
     }
 }
