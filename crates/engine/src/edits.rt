@@ -77,7 +77,7 @@ impl<C: Clock, S: Store, R: SummerRule> Engine<C, S, R> {
         self.clear()
     }
 
-    // Closes an open edit without a ticket.
+    // Closes an open edit without a ticket, as one does that a shift left open: a call of its own, though it answers like Discard.
     pub fn clear(&mut self) -> Result<(), Refusal>
         ensures answer { result ≡ answer (state_of S.cells self.old) Discard }
         ensures after { state_of S.cells self.new ≡ step (state_of S.cells self.old) Discard }

@@ -58,7 +58,8 @@ fn live_each<C: SettableClock, S: Store, R: SummerRule>(
     n
 }
 
-// A life by a clock that is made without a time. The memory is handed back, for its lender to know what it holds.
+// A life by a clock that is made without a time. The memory is handed back, for its lender to know what it
+// holds: let go in the same function, it is unknown afterwards.
 fn lived<'a, C: SettableClock + Drop>(
     clock: C,
     image: &'a mut [u8],

@@ -68,7 +68,8 @@ pub fn live<C: SettableClock, S: Store, R: SummerRule>(
 {
     let n = calls.len().min(answers.len());
     let made = &calls[..n];
-    // By its place: of what a zip with iter_mut writes, a proof knows nothing.
+    // By its place: of what a zip with iter_mut writes, a proof knows nothing. One such loop for any call would need a clause
+    // over the steps of a closure that changes the engine, longer than the loop.
     for (place, call) in made.iter().enumerate() {
         answers[place] = perform(engine, *call);
     }
