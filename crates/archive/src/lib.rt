@@ -2,5 +2,7 @@
 #![tactic(auto)]
 
 mod parties;
+mod parts;
 
 pub use parties::{Confirmation, confirm, confirm_unset};
+pub use parts::Parts;

@@ -18,7 +18,7 @@ pub fn cells_after(words: &mut [u32], calls: &[Call])
     let _words = kept_in(words, calls);
 }
 
-// The memory is handed back, for its lender to know what it holds.
+// The memory is handed back, for its lender to know what it holds: let go in the same function, it is unknown afterwards.
 fn kept_in<'a>(words: &'a mut [u32], calls: &[Call]) -> &'a mut [u32]
     ensures memory { result.now ≡ (kept (unedited (word_cells words.old)) calls.now).cells ++ word_rest words.old }
     ensures home { result.ghost_name ≡ words.entry.ghost_name }

@@ -1,7 +1,7 @@
 -- The first place of some that does not keep its rule, and its fault.
 use Rattle.std.proofs.Common.{◌≡◌, ℕ, zero, suc, ◌+◌, ◌<◌, Bool, true, false, not, cond, List, [], ◌∷◌, ◌++◌, map, length, get_or, Some, None, Option, sym, refl, ap, ◌∙◌, arith}
 use Rattle.std.specs.List.{find}
-use Rattle.std.specs.Option.{MatchOption, IsSomeAnd, option_map, option_or}
+use Rattle.std.specs.Option.{MatchOption, option_map, option_or}
 use Rattle.std.proofs.lemmas.List.Folds.{find-append, list_any_none}
 use Rattle.std.proofs.lemmas.List.{get_or_past}
 use Rattle.checks.specs.declared.fault.Fault.{Fault}
@@ -27,12 +27,9 @@ module _ (t : ℕ → ℕ) (at : ℕ → Place) where
   by_number (n ∷ ns) = by (not (good t (at n))) n _ _ (by_number ns)
 
   -- and named
-  pub named_by : (ns : List ℕ) (found : Option ℕ) (fault : Option Fault) (Post : ℕ → Fault → Type 0) → option_map (λ n. n) found ≡ find (λ n. not (good t (at n))) ns
-      → MatchOption found (fault ≡ None) (λ n. IsSomeAnd fault (Post n)) → ((n : ℕ) (f : Fault) → Post n f → f ≡ named (at n))
-      → fault ≡ fault_among t (map at ns)
-  named_by ns None fault Post e m p = m ∙ ap (option_map (λ n. named (at n))) e ∙ sym (by_number ns)
-  named_by ns (Some n) None Post e m p = absurd m
-  named_by ns (Some n) (Some f) Post e m p = ap Some (p n f m) ∙ ap (option_map (λ n. named (at n))) e ∙ sym (by_number ns)
+  pub found_named : (ns : List ℕ) (found : Option ℕ) → option_map (λ n. n) found ≡ find (λ n. not (good t (at n))) ns → option_map (λ n. named (at n)) found ≡ fault_among t (map at ns)
+  found_named ns None e = ap (option_map (λ n. named (at n))) e ∙ sym (by_number ns)
+  found_named ns (Some n) e = ap (option_map (λ n. named (at n))) e ∙ sym (by_number ns)
 
 module _ (t : ℕ → ℕ) where
   joined : (u v : Option Place) → option_map named (option_or u v) ≡ option_or (option_map named u) (option_map named v)

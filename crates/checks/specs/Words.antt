@@ -1,6 +1,8 @@
 -- The first of a list that fails a test. Assumes nothing.
-use Rattle.std.specs.Prelude.{◌≡◌, ℕ, ◌<◌, Bool, true, false, not, List, length, get_or, Some, None, Option, slice_index, slice_index_or}
+use Rattle.std.specs.Prelude.{◌≡◌, ℕ, ◌<◌, Bool, true, false, not, List, length, get_or, Some, None, Option, slice_index_or}
 use Rattle.std.specs.List.{find, range_with_len}
+-- a list of cells as it is read: 0 beyond its end
+pub use Rattle.layout.specs.Layout.{cell_at as reading}
 
 -- n numbers from a on (kept shut, so that nothing writes it out)
 unfoldable pub numbers : ℕ → ℕ → List ℕ
@@ -9,10 +11,6 @@ numbers a n = range_with_len a n
 -- the first of a list that fails the test, or none
 unfoldable pub first_failing : {X : Type 0} → (X → Bool) → List X → Option X
 first_failing good xs = find (λ x. not (good x)) xs
-
--- a list of cells as it is read: 0 beyond its end
-abbrev pub reading : List ℕ → ℕ → ℕ
-reading cells c = slice_index cells c
 
 -- what the first that fails is: it stands in the list, it fails, and all before it pass; with none, all pass
 pub record First {X : Type 0} (good : X → Bool) (xs : List X) (x : X) : Type 0 where

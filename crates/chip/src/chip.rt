@@ -44,8 +44,7 @@ impl SettableClock for CalendarChip {
     }
 
     fn set(&mut self, s: u32) -> Result<(), Refusal> {
-        let moment = Moment::at(s).ok_or(Refusal::TimeNotTaken)?;
-        self.moment = Some(moment);
+        self.moment = Some(Moment::try_from(s)?);
         Ok(())
     }
 }

@@ -7,6 +7,7 @@ use store::Entry;
 pub(crate) const MOST: usize = 64;
 
 // The recorded entries, each of which fits every store, and whether they were checked since the last change.
+// By a rule of the project a fixed table in a plain struct, without a heap.
 #[derive(Clone, Copy)]
 pub struct Edit {
     pub(crate) table: [Entry; 64],

@@ -31,15 +31,11 @@ impl<C: Clock, S: Store, R: SummerRule> Engine<C, S, R> {
         ensures after { state_of S.cells self.new ≡ step (state_of S.cells self.old) (Put c v) }
         ensures same { OnlyEdit self.old self.new }
     {
-        let Some(mut edit) = self.edit else {
-            return Err(Refusal::NoEdit);
-        };
+        let edit = self.edit.as_mut().ok_or(Refusal::NoEdit)?;
         if c >= self.store.size() {
             return Err(Refusal::NoCell);
         }
-        let answer = edit.put(c, v);
-        self.edit = Some(edit);
-        answer
+        edit.put(c, v)
     }
 
     // Examines the tables as they would stand after the commit, and marks a good edit.
@@ -48,17 +44,12 @@ impl<C: Clock, S: Store, R: SummerRule> Engine<C, S, R> {
         ensures after { state_of S.cells self.new ≡ step (state_of S.cells self.old) Check }
         ensures same { OnlyEdit self.old self.new }
     {
-        let Some(mut edit) = self.edit else {
-            return Err(Refusal::NoEdit);
-        };
-        match edit.fault_in(&self.store) {
-            Some(fault) => Err(fault.into()),
-            None => {
-                edit.mark();
-                self.edit = Some(edit);
-                Ok(())
-            }
+        let edit = self.edit.as_mut().ok_or(Refusal::NoEdit)?;
+        if let Some(fault) = edit.fault_in(&self.store) {
+            return Err(fault.into());
         }
+        edit.mark();
+        Ok(())
     }
 
     // Writes a checked edit into the store and closes it; an unchecked one is discarded.
@@ -68,16 +59,12 @@ impl<C: Clock, S: Store, R: SummerRule> Engine<C, S, R> {
         ensures same { OnlyCells S.memory self.old self.new }
     {
         ticket.spend();
-        match self.edit.take() {
-            None => Err(Refusal::NoEdit),
-            Some(edit) => {
-                if !edit.marked() {
-                    return Err(Refusal::NotChecked);
-                }
-                edit.write_into(&mut self.store);
-                Ok(())
-            }
+        let edit = self.edit.take().ok_or(Refusal::NoEdit)?;
+        if !edit.marked() {
+            return Err(Refusal::NotChecked);
         }
+        edit.write_into(&mut self.store);
+        Ok(())
     }
 
     // Closes the edit unwritten.
@@ -90,15 +77,13 @@ impl<C: Clock, S: Store, R: SummerRule> Engine<C, S, R> {
         self.clear()
     }
 
-    // Closes an open edit without a ticket.
+    // Closes an open edit without a ticket, as one does that a shift left open: a call of its own, though it answers like Discard.
     pub fn clear(&mut self) -> Result<(), Refusal>
         ensures answer { result ≡ answer (state_of S.cells self.old) Discard }
         ensures after { state_of S.cells self.new ≡ step (state_of S.cells self.old) Discard }
         ensures same { OnlyEdit self.old self.new }
     {
-        match self.edit.take() {
-            None => Err(Refusal::NoEdit),
-            Some(_) => Ok(()),
-        }
+        self.edit.take().ok_or(Refusal::NoEdit)?;
+        Ok(())
     }
 }

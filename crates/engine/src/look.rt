@@ -17,8 +17,7 @@ use tables::Tables;
 pub fn tables_of<S: Store>(store: &S) -> Tables
     ensures { timetable_in result ≡ timetable (cell_at (S.cells store.now)) }
 {
-    let cells = copied(store);
-    Tables::new(&cells)
+    Tables::new(&copied(store))
 }
 
 impl<C: Clock, S: Store, R: SummerRule> Engine<C, S, R> {
@@ -26,9 +25,7 @@ impl<C: Clock, S: Store, R: SummerRule> Engine<C, S, R> {
     pub fn look(&self) -> Result<Look, Refusal>
         ensures { result ≡ look_answer (R.in_force self.now.rule) (S.cells self.now.store) (C.meaning self.now.clock).0 }
     {
-        match self.clock.read() {
-            Some(second) => Ok(look(&tables_of(&self.store), &self.rule, second)),
-            None => Err(Refusal::NoTime),
-        }
+        let second = self.clock.read().ok_or(Refusal::NoTime)?;
+        Ok(look(&tables_of(&self.store), &self.rule, second))
     }
 }

@@ -1,5 +1,5 @@
 use crate::sample::two_tariffs;
-use archive::{confirm, confirm_unset};
+use archive::{Parts, confirm, confirm_unset};
 use clock::{CounterClock, InstantClock};
 use history::{Answer, Call};
 use layers::Vouching;
@@ -19,16 +19,17 @@ fn same_look(rt: HostRuntime) {
         Call::Run(&[]),
     ];
     let mut answers = [Answer::Done; 4];
-    let o = confirm(
-        Vouching::new(CounterClock::new()),
-        WordStore::new(&mut words),
-        Europe,
-        &calls,
-        &mut answers,
-        InstantClock::new(1_000_000_005),
-        WordStore::new(&mut archived),
-        Europe,
-    );
+    let meter = Parts {
+        clock: Vouching::new(CounterClock::new()),
+        store: WordStore::new(&mut words),
+        rule: Europe,
+    };
+    let reader = Parts {
+        clock: InstantClock::new(1_000_000_005),
+        store: WordStore::new(&mut archived),
+        rule: Europe,
+    };
+    let o = confirm(meter, &calls, &mut answers, reader);
     assert_eq!(rt; o.count, 4);
     assert!(rt; o.shown.is_ok());
     assert_eq!(rt; o.shown, o.read);
@@ -42,16 +43,17 @@ fn unset_clock(rt: HostRuntime) {
     let mut archived = two_tariffs();
     let calls = [Call::Set(5), Call::Run(&[]), Call::Pass(7)];
     let mut answers = [Answer::Done; 2];
-    let o = confirm_unset(
-        InstantClock::new(9),
-        WordStore::new(&mut words),
-        Europe,
-        &calls,
-        &mut answers,
-        InstantClock::new(9),
-        WordStore::new(&mut archived),
-        Europe,
-    );
+    let meter = Parts {
+        clock: InstantClock::new(9),
+        store: WordStore::new(&mut words),
+        rule: Europe,
+    };
+    let reader = Parts {
+        clock: InstantClock::new(9),
+        store: WordStore::new(&mut archived),
+        rule: Europe,
+    };
+    let o = confirm_unset(meter, &calls, &mut answers, reader);
     assert_eq!(rt; o.count, 2);
     assert_eq!(rt; o.shown, o.read);
     assert_eq!(rt; answers[0], Answer::Refused(Refusal::TimeNotTaken));

@@ -1,63 +1,37 @@
 -- Europe's summer of 2024, and the winters beside it.
-use Rattle.std.proofs.Common.{◌≡◌, ℕ, ◌+◌, ◌<◌, ◌≤◌, true, false, ℤ, pos, Some, sym, refl, ◌∙◌, arith}
+use Rattle.std.proofs.Common.{◌≡◌, ℕ, ◌+◌, ◌<◌, ◌≤◌, true, false, ℤ, pos, Some, sym, ◌∙◌, arith}
 use borrow.Author.Differences.{ints}
-use Rattle.calendar.specs.Months.{month_first_of, length_at}
 use Rattle.keeper.specs.Least.{least_later, changes}
-use Rattle.summer.specs.Sundays.{first_day}
 use Rattle.summer.specs.Years.{Current}
 use Rattle.summer.specs.Laws.{europe, europe_from, europe_until}
 use Rattle.summer.specs.Months.{europe_years}
 use Rattle.summer.proofs.Nexts.{next_at}
-use Rattle.summer.proofs.Spans.{on, off, until_le}
+use Rattle.summer.proofs.Spans.{on, off}
+use Rattle.summer.proofs.Stars.{year, europe_until_53, europe_from_54, europe_until_54, europe_from_55, europe_until_55}
 
-ended : europe_until 53 ≡ 1698541200
-unfolding first_day month_first_of length_at
-ended = refl
-
-begins : europe_from 54 ≡ 1711846800
-unfolding first_day month_first_of length_at
-begins = refl
-
-ends : europe_until 54 ≡ 1729990800
-unfolding first_day month_first_of length_at
-ends = refl
-
-begins_again : europe_from 55 ≡ 1743296400
-unfolding first_day month_first_of length_at
-begins_again = refl
-
-ends_again : europe_until 55 ≡ 1761440400
-unfolding first_day month_first_of length_at
-ends_again = refl
-
--- the year of a second, from the ends of two years
-year : (t y : ℕ) → y < 136 → europe_until y ≤ t → t < europe_until (y + 1) → Current europe_until (pos t) (y + 1)
-year t y f a b =
-    record {
-      few = omega arith;
-      before = λ k h. let u = until_le europe_from europe_until europe_years k y (omega arith) in omega (arith, ints);
-      here = omega (arith, ints);
-    }
+-- the year after year y has begun at t, where the summer of y is over and the next is not
+current : (t y : ℕ) → y < 136 → europe_until y ≤ t → t < europe_until (y + 1) → Current europe_until (pos t) (y + 1)
+current t y f a b = year europe_from europe_until europe_years (pos t) y f (omega (arith, ints)) (omega (arith, ints))
 
 pub winter : (o : ℤ) (t : ℕ) → 1698541200 ≤ t → t < 1711846800 → europe o t ≡ false
 winter o t a b =
-    let p = ended in let q = begins in let r = ends in
-    off europe_from europe_until europe_years (pos t) 54 (year t 53 (omega arith) (omega arith) (omega arith)) (omega (arith, ints))
+    let p = europe_until_53 in let q = europe_from_54 in let r = europe_until_54 in
+    off europe_from europe_until europe_years (pos t) 54 (current t 53 (omega arith) (omega arith) (omega arith)) (omega (arith, ints))
 
 pub summer : (o : ℤ) (t : ℕ) → 1711846800 ≤ t → t < 1729990800 → europe o t ≡ true
 summer o t a b =
-    let p = ended in let q = begins in let r = ends in
-    on europe_from europe_until europe_years (pos t) 54 (year t 53 (omega arith) (omega arith) (omega arith)) (omega (arith, ints))
+    let p = europe_until_53 in let q = europe_from_54 in let r = europe_until_54 in
+    on europe_from europe_until europe_years (pos t) 54 (current t 53 (omega arith) (omega arith) (omega arith)) (omega (arith, ints))
 
 pub winter_again : (o : ℤ) (t : ℕ) → 1729990800 ≤ t → t < 1743296400 → europe o t ≡ false
 winter_again o t a b =
-    let p = ends in let q = begins_again in let r = ends_again in
-    off europe_from europe_until europe_years (pos t) 55 (year t 54 (omega arith) (omega arith) (omega arith)) (omega (arith, ints))
+    let p = europe_until_54 in let q = europe_from_55 in let r = europe_until_55 in
+    off europe_from europe_until europe_years (pos t) 55 (current t 54 (omega arith) (omega arith) (omega arith)) (omega (arith, ints))
 
 summer_again : (o : ℤ) → europe o 1743296400 ≡ true
 summer_again o =
-    let p = ends in let q = begins_again in let r = ends_again in
-    on europe_from europe_until europe_years (pos 1743296400) 55 (year 1743296400 54 (omega arith) (omega arith) (omega arith)) (omega (arith, ints))
+    let p = europe_until_54 in let q = europe_from_55 in let r = europe_until_55 in
+    on europe_from europe_until europe_years (pos 1743296400) 55 (current 1743296400 54 (omega arith) (omega arith) (omega arith)) (omega (arith, ints))
 
 module _ (o : ℤ) (t : ℕ) where
   pub next_in_winter : 1698541200 ≤ t → t < 1711846800 → least_later (changes (europe o)) t 4294967295 ≡ Some 1711846800

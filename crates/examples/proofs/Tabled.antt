@@ -103,4 +103,4 @@ module _ (z : Timetable) (d : ℤ) (s p : ℕ) (today : p ≡ plan_on z d) where
       let back : days_back_of z d ≡ Some 1 = later_hit (λ j. is_some (latest_of (events_on z (d -ℤ pos j)))) 0 7 (omega arith) (ap is_some yesterday) in
       let opening : opening_of z d ≡ Some (event_of q 1 e) =
       ap (closing_from z d) back ∙ (ap (event_from z d 1) yesterday ∙ ap (λ (n : ℕ). Some (event_of n 1 e)) a) in
-      sym (opened z d s p (events_of z p) today refl (opening_of z d) d refl refl h) ∙ opening
+      sym (opened z d s p (events_of z p) today refl (opening_of z d) refl h) ∙ opening

@@ -1,23 +1,22 @@
 -- A life of steps: one turn of it, and its end.
-use Rattle.std.proofs.Common.{◌≡◌, ℕ, ◌+◌, ◌<◌, List, [], ◌∷◌, ◌++◌, map, length, get_or, take, drop, set, sym, ap, ◌∙◌, subst, append_assoc, append-nil, arith}
+use Rattle.std.proofs.Common.{◌≡◌, ℕ, ◌+◌, ◌<◌, List, [], ◌∷◌, ◌++◌, map, length, get_or, take, drop, set, sym, ap, ◌∙◌, subst, arith}
 use lib.ListN.{length-map}
-use Rattle.std.proofs.lemmas.List.{drop_more, drop_all, get_or-map, take_more_set}
+use Rattle.std.proofs.lemmas.List.{drop_more, drop_all, get_or-map, map-append, take_more_set}
 use Rattle.history.specs.declared.calls.Call.{Call}
 use Rattle.history.specs.declared.calls.Call.TheVariants.{Look, Set, Pass, Get, Open, Put, Check, Commit, Discard, Clear, Run}
 use Rattle.history.specs.declared.calls.Answer.{Answer}
 use Rattle.clock.specs.Setting.{Kind}
-use Rattle.history.specs.Book.{answers, kept}
-use Rattle.history.specs.History.{Meaning, Turned}
+use Rattle.history.specs.History.{Lived, Meaning, Turned}
+use Rattle.history.proofs.Turns as Turns
 use Rattle.exports.specs.declared.fields.Step.{Step}
 use Rattle.exports.specs.declared.fields.Told.{Told}
 use Rattle.exports.specs.Lives.{Acted, Same, call_of, calls_of, told_of}
 
--- after some turns the engine means `at`, has told `out`, and `left` is still to do
+-- after some turns of a history what is told is told of its answers
 pub record Sofar (k : Kind) (start : Meaning) (calls : List Call) (at : Meaning) (out : List Told) (left : List Call) : Type 0 where
-  pub book : kept at.book left ≡ kept start.book calls
-  pub rule : at.rule ≡ start.rule
-  pub memory : at.memory ≡ start.memory
-  pub told : out ++ map told_of (answers k at.rule at.time at.book left) ≡ map told_of (answers k start.rule start.time start.book calls)
+  pub answered : List Answer
+  pub lived : Turns.Sofar k start calls at answered left
+  pub told : out ≡ map told_of answered
 
 module _ {k : Kind} {at next : Meaning} {a : Answer} where
   -- where a Run's order lies plays no part
@@ -38,10 +37,9 @@ module _ {k : Kind} {at next : Meaning} {a : Answer} where
 module _ {k : Kind} {start : Meaning} {calls : List Call} where
   turn : {at next : Meaning} {out : List Told} {c : Call} {left : List Call} {a : Answer} → Sofar k start calls at out (c ∷ left) → Turned k at c next a → Sofar k start calls next (out ++ told_of a ∷ []) left
   turn {at} {next} {out} {c} {left} {a} h t = record {
-    book = ap (λ s. kept s left) t.book ∙ h.book;
-    rule = t.rule ∙ h.rule;
-    memory = t.memory ∙ h.memory;
-    told = append_assoc out (told_of a ∷ []) _ ∙ ap (λ l. out ++ l) ((λ i. told_of (t.answer i) ∷ map told_of (answers k (t.rule i) (t.time i) (t.book i) left))) ∙ h.told;
+    answered = h.answered ++ a ∷ [];
+    lived = Turns.turn h.lived t;
+    told = ap (λ l. l ++ told_of a ∷ []) h.told ∙ sym (map-append told_of h.answered (a ∷ []));
   }
 
   -- one turn, where what is told goes into its place
@@ -59,4 +57,5 @@ module _ {k : Kind} {start : Meaning} {calls : List Call} where
       let long : length calls ≡ length steps = ap length same ∙ length-map steps (call_of orders) in
       let none : drop i calls ≡ [] = drop_all i calls (omega arith) in
       let s : Sofar k start calls at (take n out) [] = subst (λ j. Sofar k start calls at (take j out) []) end (subst (Sofar k start calls at (take i out)) none h) in
-      record { book = s.book; memory = s.memory; told = sym (append-nil (take n out)) ∙ s.told }
+      let l : Lived k start calls at s.answered = Turns.over s.lived in
+      record { book = l.book; memory = l.memory; told = s.told ∙ ap (map told_of) l.answers }

@@ -1,6 +1,6 @@
 ghost use Rattle.exports.specs.Crossing.{cell_of, fields_of, outcome_of, rule_of};
 ghost use Rattle.exports.specs.Lives.{refused_by, told_of};
-ghost use Rattle.std.specs.Prelude.{◌≡◌};
+ghost use Rattle.std.specs.Prelude.{◌≡◌, Err};
 
 use crate::fields::{Fields, Outcome, Told};
 use history::Answer;
@@ -50,16 +50,24 @@ impl From<Refusal> for Outcome {
     }
 }
 
+impl From<Stopped> for Outcome {
+    ghost from_gives = { λ stopped outcome. outcome ≡ outcome_of (Err stopped) };
+
+    fn from(stopped: Stopped) -> Outcome {
+        Outcome {
+            place: stopped.place,
+            ..Outcome::from(stopped.why)
+        }
+    }
+}
+
 impl From<Result<(), Stopped>> for Outcome {
     ghost from_gives = { λ r outcome. outcome ≡ outcome_of r };
 
     fn from(r: Result<(), Stopped>) -> Outcome {
         match r {
             Ok(()) => Outcome::default(),
-            Err(stopped) => Outcome {
-                place: stopped.place,
-                ..Outcome::from(stopped.why)
-            },
+            Err(stopped) => Outcome::from(stopped),
         }
     }
 }
@@ -83,7 +91,7 @@ impl From<Answer> for Told {
                 ..Told::default()
             },
             Answer::Stopped(stopped) => Told {
-                outcome: Outcome::from(Err(stopped)),
+                outcome: Outcome::from(stopped),
                 ..Told::default()
             },
         }

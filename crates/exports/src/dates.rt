@@ -4,7 +4,7 @@ ghost use Rattle.std.specs.Prelude.{◌≡◌, ℤ};
 use crate::fields::Date;
 use calendar::{date_of, day_of};
 
-// What stands for no day.
+// What stands for no day: C has no Option.
 const NO_DAY: i32 = -1000;
 
 // The date of a day, or the number of the refusal.

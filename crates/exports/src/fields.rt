@@ -1,3 +1,5 @@
+// Plain numbers here, since C has no enums with values.
+
 // A date, or the refusal's number; that is 0 where there is a date.
 #[repr(C)]
 #[derive(Clone, Copy)]

@@ -38,6 +38,7 @@ fn part<'a>(orders: &'a [u8], from: usize, to: usize) -> &'a [u8]
 }
 
 // The calls in turn, as far as there are places for what is told of them.
+// Steps, orders and answers stay three slices, as C passes them: a struct would be made of them once and taken apart once.
 fn live_each<C: SettableClock, S: Store, R: SummerRule>(
     engine: &mut Engine<C, S, R>,
     steps: &[Step],
@@ -50,13 +51,15 @@ fn live_each<C: SettableClock, S: Store, R: SummerRule>(
 {
     let n = steps.len().min(answers.len());
     let made = &steps[..n];
+    // By its place: of what a zip with iter_mut writes, a proof knows nothing.
     for (place, step) in made.iter().enumerate() {
         answers[place] = Told::from(perform(engine, call_of(*step, orders)));
     }
     n
 }
 
-// A life by a clock that is made without a time. The memory is handed back, for its lender to know what it holds.
+// A life by a clock that is made without a time. The memory is handed back, for its lender to know what it
+// holds: let go in the same function, it is unknown afterwards.
 fn lived<'a, C: SettableClock + Drop>(
     clock: C,
     image: &'a mut [u8],

@@ -47,6 +47,7 @@ fn seen_each(tables: &Tables, rule: u8, seconds: &[u32], looks: &mut [Fields]) -
 {
     let n = seconds.len().min(looks.len());
     let asked = &seconds[..n];
+    // By its place: of what a zip with iter_mut writes, a proof knows nothing.
     for (place, second) in asked.iter().enumerate() {
         looks[place] = seen(tables, rule, *second);
     }

@@ -49,7 +49,7 @@ pub extern "C" fn jezgwilon_in_force(rule: u8, offset: i32, second: u32) -> bool
     Law::from(rule).in_force(offset, second)
 }
 
-// The rule's next change, or -1 if there is none.
+// The rule's next change, or -1 if there is none: C has no Option.
 #[unsafe(no_mangle)]
 pub extern "C" fn jezgwilon_next_change(rule: u8, offset: i32, second: u32) -> i64
     ensures answer { result ≡ second_or (least_later (changes (rule_at rule offset)) second 4294967295) }

@@ -31,7 +31,7 @@ moved_cons k m call.Clear cs = refl
 moved_cons k m (call.Run order) cs = refl
 
 module _ {k : Kind} {start : Meaning} {calls : List Call} where
-  turn : {at next : Meaning} {out : List Answer} {c : Call} {left : List Call} {a : Answer} → Sofar k start calls at out (c ∷ left) → Turned k at c next a → Sofar k start calls next (out ++ a ∷ []) left
+  pub turn : {at next : Meaning} {out : List Answer} {c : Call} {left : List Call} {a : Answer} → Sofar k start calls at out (c ∷ left) → Turned k at c next a → Sofar k start calls next (out ++ a ∷ []) left
   turn {at} {next} {out} {c} {left} {a} h t = record {
     book = ap (λ s. kept s left) t.book ∙ h.book;
     time = ap (λ m. moved k m (moves left)) t.time ∙ sym (moved_cons k at.time c left) ∙ h.time;
@@ -40,7 +40,7 @@ module _ {k : Kind} {start : Meaning} {calls : List Call} where
     answers = append_assoc out (a ∷ []) _ ∙ ap (λ l. out ++ l) ((λ i. t.answer i ∷ answers k (t.rule i) (t.time i) (t.book i) left)) ∙ h.answers;
   }
 
-  over : {at : Meaning} {out : List Answer} → Sofar k start calls at out [] → Lived k start calls at out
+  pub over : {at : Meaning} {out : List Answer} → Sofar k start calls at out [] → Lived k start calls at out
   over {at} {out} h = record { book = h.book; time = h.time; rule = h.rule; memory = h.memory; answers = sym (append-nil out) ∙ h.answers }
 
   -- one turn, where the answer goes into its place

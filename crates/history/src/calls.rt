@@ -18,7 +18,7 @@ pub enum Call<'a> {
     Run(&'a [u8]),
 }
 
-// What a call answered, tickets aside.
+// What a call answered, tickets aside. Five outcomes in one enum, and no Result: over it each would need an enum within an enum, and tell no more.
 #[derive(Clone, Copy, PartialEq, Eq, Debug)]
 pub enum Answer {
     Done,

@@ -33,29 +33,30 @@ pub fn perform<C: SettableClock, S: Store, R: SummerRule>(
     ensures turned { Turned C.kind (meaning C.meaning S.cells S.memory R.in_force engine.old) call.entry (meaning C.meaning S.cells S.memory R.in_force engine.new) result }
 {
     match call {
-        Call::Look => Answer::from(engine.look()),
-        Call::Set(s) => Answer::from(engine.set(s)),
+        Call::Look => engine.look().into(),
+        Call::Set(s) => engine.set(s).into(),
         Call::Pass(n) => {
             engine.pass(n);
             Answer::Done
         }
-        Call::Get(c) => Answer::from(engine.get(c)),
-        Call::Open => Answer::from(ticket_aside(engine.open())),
+        Call::Get(c) => engine.get(c).into(),
+        Call::Open => ticket_aside(engine.open()).into(),
         Call::Put(c, v) => {
             let ticket = fresh_ticket();
             let answer = engine.put(&ticket, c, v);
             spend(ticket);
-            Answer::from(answer)
+            answer.into()
         }
-        Call::Check => Answer::from(engine.check()),
-        Call::Commit => Answer::from(engine.commit(fresh_ticket())),
-        Call::Discard => Answer::from(engine.discard(fresh_ticket())),
-        Call::Clear => Answer::from(engine.clear()),
-        Call::Run(order) => Answer::from(run(engine, order)),
+        Call::Check => engine.check().into(),
+        Call::Commit => engine.commit(fresh_ticket()).into(),
+        Call::Discard => engine.discard(fresh_ticket()).into(),
+        Call::Clear => engine.clear().into(),
+        Call::Run(order) => run(engine, order).into(),
     }
 }
 
 // Makes the calls in turn while there is a place for the answer, and answers how many it made.
+// The count and what stays are two equations: a record of them would take the same four arguments, here and at every other such function.
 pub fn live<C: SettableClock, S: Store, R: SummerRule>(
     engine: &mut Engine<C, S, R>,
     calls: &[Call],
@@ -67,6 +68,8 @@ pub fn live<C: SettableClock, S: Store, R: SummerRule>(
 {
     let n = calls.len().min(answers.len());
     let made = &calls[..n];
+    // By its place: of what a zip with iter_mut writes, a proof knows nothing. One such loop for any call would need a clause
+    // over the steps of a closure that changes the engine, longer than the loop.
     for (place, call) in made.iter().enumerate() {
         answers[place] = perform(engine, *call);
     }

@@ -1,51 +1,62 @@
-ghost use Rattle.history.specs.Book.{came_to, done, seen, told};
-ghost use Rattle.std.specs.Prelude.{◌≡◌};
+ghost use Rattle.std.specs.Prelude.{◌≡◌, Ok, Err};
+ghost use Rattle.history.specs.declared.calls.Answer.TheVariants as says;
 
 use crate::calls::Answer;
 use refusal::Refusal;
 use runner::Stopped;
 use schedule::Look;
 
-impl From<Result<(), Refusal>> for Answer {
-    ghost from_gives = { λ r a. a ≡ done r };
+impl From<()> for Answer {
+    ghost from_gives = { λ u a. a ≡ says.Done };
 
-    fn from(r: Result<(), Refusal>) -> Answer {
-        match r {
-            Ok(()) => Answer::Done,
-            Err(why) => Answer::Refused(why),
-        }
+    fn from(_: ()) -> Answer {
+        Answer::Done
     }
 }
 
-impl From<Result<u32, Refusal>> for Answer {
-    ghost from_gives = { λ r a. a ≡ told r };
+impl From<u32> for Answer {
+    ghost from_gives = { λ value a. a ≡ says.Cell value };
 
-    fn from(r: Result<u32, Refusal>) -> Answer {
-        match r {
-            Ok(value) => Answer::Cell(value),
-            Err(why) => Answer::Refused(why),
-        }
+    fn from(value: u32) -> Answer {
+        Answer::Cell(value)
     }
 }
 
-impl From<Result<Look, Refusal>> for Answer {
-    ghost from_gives = { λ r a. a ≡ seen r };
+impl From<Look> for Answer {
+    ghost from_gives = { λ look a. a ≡ says.Seen look };
 
-    fn from(r: Result<Look, Refusal>) -> Answer {
-        match r {
-            Ok(look) => Answer::Seen(look),
-            Err(why) => Answer::Refused(why),
-        }
+    fn from(look: Look) -> Answer {
+        Answer::Seen(look)
     }
 }
 
-impl From<Result<(), Stopped>> for Answer {
-    ghost from_gives = { λ r a. a ≡ came_to r };
+impl From<Refusal> for Answer {
+    ghost from_gives = { λ why a. a ≡ says.Refused why };
 
-    fn from(r: Result<(), Stopped>) -> Answer {
+    fn from(why: Refusal) -> Answer {
+        Answer::Refused(why)
+    }
+}
+
+impl From<Stopped> for Answer {
+    ghost from_gives = { λ stopped a. a ≡ says.Stopped stopped };
+
+    fn from(stopped: Stopped) -> Answer {
+        Answer::Stopped(stopped)
+    }
+}
+
+// What was returned as well as why nothing was.
+impl<T, E> From<Result<T, E>> for Answer
+where
+    Answer: From<T> + From<E>,
+{
+    ghost from_gives = { λ r a. elim r [ Ok value ↦ ⟦<Answer as From<T>>⟧.from_gives value a | Err why ↦ ⟦<Answer as From<E>>⟧.from_gives why a ] };
+
+    fn from(r: Result<T, E>) -> Answer {
         match r {
-            Ok(()) => Answer::Done,
-            Err(stopped) => Answer::Stopped(stopped),
+            Ok(value) => Answer::from(value),
+            Err(why) => Answer::from(why),
         }
     }
 }

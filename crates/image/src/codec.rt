@@ -2,7 +2,7 @@ ghost use Rattle.std.specs.Prelude.{◌≡◌, ℕ, ◌++◌, IfOk};
 ghost use Rattle.image.specs.Image.{Faithful, image_cells, image_of, image_rest};
 ghost use Rattle.store.specs.Words.{word_cells};
 
-use crate::image::{Image, read_cell};
+use crate::image::Image;
 use layout::width;
 use std::alloc::{AllocError, Global};
 use store::{Format, cells_in};
@@ -13,8 +13,9 @@ pub fn decode(heap: Global, image: &[u8]) -> Result<Vec<u32>, AllocError>
     ensures trip { image_of (image_cells image.now) ++ image_rest image.now ≡ image.now }
 {
     let mut cells = Vec::new(heap);
+    // a loop, since over `map_while(..).collect(heap)` the goal `returns-clause-answer` stayed open
     for c in 0..Image::count(image) {
-        cells.push(read_cell(image, c))?;
+        cells.push(Image::read(image, c))?;
     }
     Ok(cells)
 }

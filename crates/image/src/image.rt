@@ -3,6 +3,7 @@ ghost use Rattle.layout.specs.Layout.{width as cellWidth};
 ghost use Rattle.image.specs.Image.{Bytes, image_cells, image_of, image_rest};
 ghost use Rattle.image.specs.Laws.{image_laws};
 
+use crate::numbers::read_number;
 use layout::{CELLS, place, width};
 use store::{Format, LentStore};
 
@@ -42,8 +43,11 @@ impl Format for Image {
         c < CELLS && place(c) + width(c) <= bytes.len()
     }
 
-    fn read(bytes: &[u8], c: u32) -> Option<u32> {
-        Self::has(bytes, c).then(|| read_cell(bytes, c))
+    #[tactic(auto, using(crate::proofs::Placed::bound))]
+    fn read(bytes: &[u8], c: u32) -> u32 {
+        let start = place(c);
+        let end = start + width(c);
+        read_number(&bytes[start..end])
     }
 
     fn holds(c: u32, v: u32) -> bool {
@@ -56,17 +60,4 @@ impl Format for Image {
         let n = width(c);
         bytes[at..at + n].copy_from_slice(&v.to_be_bytes()[4 - n..]);
     }
-}
-
-// What a cell holds.
-#[tactic(auto, using(crate::proofs::Placed::bound))]
-pub(crate) fn read_cell(bytes: &[u8], c: u32) -> u32
-    requires { c < length (image_cells bytes.now) }
-    ensures { result ≡ slice_index (image_cells bytes.now) c }
-{
-    let at = place(c);
-    let n = width(c);
-    let mut number = [0; 4];
-    number[4 - n..].copy_from_slice(&bytes[at..at + n]);
-    u32::from_be_bytes(number)
 }

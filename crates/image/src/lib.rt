@@ -3,6 +3,7 @@
 
 mod codec;
 mod image;
+mod numbers;
 
 pub use codec::{decode, encode};
 pub use image::{Image, ImageStore};

@@ -1,5 +1,5 @@
 // How many months, dates and weekdays a row has, by which it ranks: the fewest months win, then dates, then weekdays.
-#[derive(Clone, Copy, Drop, PartialEq, Eq, PartialOrd, Ord)]
+#[derive(Clone, Copy, Drop, Default, PartialEq, Eq, PartialOrd, Ord)]
 pub struct Counts {
     pub months: u8,
     pub dates: u8,

@@ -1,6 +1,6 @@
 -- What the ranges of the masks mean, bit by bit.
 use Rattle.std.proofs.Common.{◌≡◌, ℕ, zero, suc, ◌+◌, ◌*◌, ◌/◌, ◌%◌, ◌^◌, ◌<◌, ◌≤◌, Decides, sym, ap, ◌∙◌, ⊎_elim, mod-lt, mod-eq_of_lt, one-add, arith, pow_mono}
-use Rattle.layout.specs.Layout.{Bit, MaskRanges, only, OnlyBits}
+use Rattle.layout.specs.Layout.{Bit, only, OnlyBits}
 use Rattle.std.proofs.lemmas.Nat.{le-div, pow_pos, shr-shr}
 use Rattle.std.proofs.lemmas.Bool.{cases_lt, eqb-true, eq-eqb}
 use lib.Bits.{bit_and, and_high}
@@ -59,9 +59,14 @@ ranges last v m e =
     let d = mask_means (2 ^ last) v m e (pow_pos last) in
     ((λ t. even_below last v (d.0 t)), (λ f. d.1 (bits_even last v f)))
 
-pub mask_ranges : (v : ℕ) → MaskRanges v
-mask_ranges v = record {
-  months = ranges 12 v 8190 (and_high v 12 1);
-  weekdays = ranges 7 v 254 (and_high v 7 1);
-  dates = ranges 31 v 4294967294 (and_high v 31 1);
-}
+pub months_only : (v : ℕ) → Decides (only 8190 v) (OnlyBits 1 12 v)
+months_only v = ranges 12 v 8190 (and_high v 12 1)
+
+pub weekdays_only : (v : ℕ) → Decides (only 254 v) (OnlyBits 1 7 v)
+weekdays_only v = ranges 7 v 254 (and_high v 7 1)
+
+pub dates_only : (v : ℕ) → Decides (only 4294967294 v) (OnlyBits 1 31 v)
+dates_only v = ranges 31 v 4294967294 (and_high v 31 1)
+
+-- what `allows` promises of every mask
+pub ruleset mask_ranges = (months_only, weekdays_only, dates_only)

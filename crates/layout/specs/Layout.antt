@@ -1,5 +1,5 @@
 -- The layout of the cells: the field of each, its bytes and its values, and where rows, events and bytes stand. Assumes nothing.
-use Rattle.std.specs.Prelude.{◌≡◌, ℕ, zero, suc, ◌+◌, ◌-◌, ◌*◌, ◌/◌, ◌%◌, ◌^◌, ◌≤◌, Bool, cond, ◌&&◌, Decides, ◌==◌, bit_and, nat_le, nat_lt}
+use Rattle.std.specs.Prelude.{◌≡◌, ℕ, zero, suc, ◌+◌, ◌-◌, ◌*◌, ◌/◌, ◌%◌, ◌^◌, ◌≤◌, Bool, cond, ◌&&◌, Decides, ◌==◌, bit_and, List, nat_le, nat_lt, slice_index}
 use Rattle.layout.specs.declared.field.Field.TheVariants.{Zone, Summer, Months, Weekdays, Dates, Plan, Hour, Minute, Tariff}
 use Rattle.layout.specs.declared.field.Field.{Field}
 
@@ -43,16 +43,13 @@ row_field k = cond (k == 0) Months (cond (k == 1) Weekdays (cond (k == 2) Dates 
 abbrev pub event_field : ℕ → Field
 event_field k = cond (k == 0) Hour (cond (k == 1) Minute Tariff)
 
--- the field of a cell: zone, summer time, rows of 4 cells, then events of 3 cells
-abbrev pub field_at : ℕ → Field
-field_at c =
+-- the field of a cell: zone, summer time, rows of 4 cells, then events of 3 cells.
+-- It is shut: what cites it goes by the field and not by the number.
+unfoldable pub field_of : ℕ → Field
+field_of c =
     cond (c == 0) Zone
     (cond (c == 1) Summer
     (cond (nat_lt c 130) (row_field ((c - 2) % 4)) (event_field ((c - 130) % 3))))
-
--- the same, shut: what cites it goes by the field and not by the number
-unfoldable pub field_of : ℕ → Field
-field_of c = field_at c
 
 -- the bytes of a field
 abbrev pub width_of : Field → ℕ
@@ -81,6 +78,10 @@ allows Plan v = nat_le v plan_count
 allows Hour v = nat_le v 23
 allows Minute v = nat_le v 59
 allows Tariff v = nat_le v largest_tariff
+
+-- cell c of a list of cells, or 0 past its end
+abbrev pub cell_at : List ℕ → ℕ → ℕ
+cell_at cells c = slice_index cells c
 
 -- the bytes of a cell
 abbrev pub width : ℕ → ℕ

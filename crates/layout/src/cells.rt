@@ -1,10 +1,13 @@
 ghost use Rattle.std.specs.Prelude.{◌≡◌, ◌^◌, ◌<◌, ◌≤◌, true};
-ghost use Rattle.layout.specs.Layout.{event_cell, event_counts, field_at, field_of, in_range, Positions, row_cell, width};
+ghost use Rattle.layout.specs.Layout.{cell_at, event_cell, event_counts, field_of, in_range, Positions, row_cell, width};
 
 use crate::field::{Field, LARGEST_TARIFF};
 
 // The cells of a full store.
 pub const CELLS: u32 = 706;
+
+// All of them, as they are copied from a store.
+pub type Cells = [u32; CELLS as usize];
 
 // The rows, the day plans, and the events of a plan.
 pub const ROWS: u8 = 32;
@@ -14,15 +17,10 @@ pub const PLANS: u8 = 16;
 pub const EVENTS: u8 = 12;
 
 // The field of a cell. Past the last cell the layout goes on with events.
+#[tactic(auto, using(crate::proofs::Fields::positions), unfolding(crate::specs::Layout::field_of))]
 pub fn field_of(c: u32) -> Field
     ensures answer { result ≡ field_of c }
     ensures positions { Positions }
-{
-    field_at(c)
-}
-
-fn field_at(c: u32) -> Field
-    ensures { result ≡ field_at c }
 {
     match c {
         0 => Field::Zone,
@@ -57,6 +55,13 @@ pub fn in_range(c: u32, v: u32) -> bool
     field_of(c).allows(v)
 }
 
+// A cell of some, or 0 past the last of them.
+pub fn cell_at(cells: &[u32], c: u32) -> u32
+    ensures { result ≡ cell_at cells.now c }
+{
+    cells.get(c as usize).copied().unwrap_or(0)
+}
+
 // The first cell of a row, its months; weekdays, dates and plan follow. Rows count from 1.
 pub fn row_cell(row: u8) -> u32
     ensures { result ≡ row_cell row }
@@ -75,5 +80,5 @@ pub fn event_cell(plan: u8, event: u8) -> u32
 pub fn event_counts(hour: u32, minute: u32, tariff: u32) -> bool
     ensures { result ≡ event_counts hour minute tariff }
 {
-    (hour <= 23 && minute <= 59) && (1 <= tariff && tariff <= LARGEST_TARIFF)
+    (hour <= 23 && minute <= 59) && (1..=LARGEST_TARIFF).contains(&tariff)
 }

@@ -1,6 +1,8 @@
 ghost use Rattle.std.specs.Prelude.{◌≡◌, ◌^◌, ◌<◌, ◌≤◌, true};
 ghost use Rattle.layout.specs.Layout.{allows, MaskRanges, width_of};
 
+use crate::cells::PLANS;
+
 // The largest tariff.
 pub const LARGEST_TARIFF: u32 = 255;
 
@@ -24,12 +26,23 @@ pub enum Field {
 
 impl Field {
     // Whether the value is one that the field may have: and then it fits the field's bytes.
+    #[tactic(auto, using(crate::proofs::Fields::field_fits, crate::proofs::Masks::mask_ranges))]
     pub fn allows(self, v: u32) -> bool
         ensures answer { result ≡ allows self v }
         ensures fits { result ≡ true → v < 256 ^ width_of self }
         ensures masks { MaskRanges v }
     {
-        in_field(self, v)
+        match self {
+            Field::Zone => v <= 86400,
+            Field::Summer => v <= 1,
+            Field::Months => v & 8190 == v,
+            Field::Weekdays => v & 254 == v,
+            Field::Dates => v & 4294967294 == v,
+            Field::Plan => v <= u32::from(PLANS),
+            Field::Hour => v <= 23,
+            Field::Minute => v <= 59,
+            Field::Tariff => v <= LARGEST_TARIFF,
+        }
     }
 
     // The bytes of the field.
@@ -41,24 +54,7 @@ impl Field {
             Field::Zone => 4,
             Field::Months => 2,
             Field::Dates => 4,
-            Field::Tariff => 1,
             _ => 1,
         }
-    }
-}
-
-fn in_field(field: Field, v: u32) -> bool
-    ensures { result ≡ allows field v }
-{
-    match field {
-        Field::Zone => v <= 86400,
-        Field::Summer => v <= 1,
-        Field::Months => v & 8190 == v,
-        Field::Weekdays => v & 254 == v,
-        Field::Dates => v & 4294967294 == v,
-        Field::Plan => v <= 16,
-        Field::Hour => v <= 23,
-        Field::Minute => v <= 59,
-        Field::Tariff => v <= LARGEST_TARIFF,
     }
 }

@@ -6,7 +6,8 @@ mod field;
 mod places;
 
 pub use cells::{
-    CELLS, EVENTS, PLANS, ROWS, event_cell, event_counts, field_of, in_range, row_cell, width,
+    CELLS, Cells, EVENTS, PLANS, ROWS, cell_at, event_cell, event_counts, field_of, in_range,
+    row_cell, width,
 };
 pub use field::{Field, LARGEST_TARIFF};
 pub use places::{IMAGE_BYTES, place};

@@ -1,28 +1,26 @@
 ghost use Rattle.layout.specs.Layout.{cell_count, image_size, place_of};
-ghost use Rattle.layout.specs.Quick.{quick_place};
-ghost use Rattle.std.specs.Prelude.{◌≡◌, ◌*◌, ◌^◌, ◌<◌, ◌≤◌};
+ghost use Rattle.std.specs.Prelude.{◌≡◌, ◌*◌, ◌≤◌};
+
+use crate::cells::{EVENTS, PLANS, ROWS};
 
 // The bytes of a row and of an event.
 const ROW_BYTES: usize = 8;
 
 const EVENT_BYTES: usize = 3;
 
-// The bytes of a full image: zone and summer time, 32 rows, 16 plans of 12 events.
-pub const IMAGE_BYTES: usize = 5 + 32 * ROW_BYTES + 192 * EVENT_BYTES;
+// The bytes of a full image: zone and summer time, the rows, the events of the plans.
+pub const IMAGE_BYTES: usize = 5
+    + ROWS as usize * ROW_BYTES
+    + PLANS as usize * EVENTS as usize * EVENT_BYTES;
 
 // The place of a cell's first byte: as many bytes as the cells before it have.
+#[tactic(auto, using(crate::proofs::Closed::place_is, crate::proofs::Closed::full))]
 pub fn place(c: u32) -> usize
     ensures answer { result ≡ place_of c }
     ensures most { result ≤ 4 * c }
     ensures full { place_of cell_count ≡ image_size }
 {
-    quick_place(c as usize)
-}
-
-fn quick_place(c: usize) -> usize
-    requires { c < 2 ^ 32 }
-    ensures { result ≡ quick_place c }
-{
+    let c = c as usize;
     if c < 2 {
         4 * c
     } else if c < 130 {

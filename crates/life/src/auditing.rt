@@ -9,19 +9,18 @@ use std::io::Write;
 // An image and then a life as text: each call with its answer is written, then the meter's look and an archive reader's.
 // A cut image gives the line `short`. A line that is no call is named, and nothing is performed.
 pub fn audit<W: Write>(heap: Global, input: &mut [u8], out: &mut W) -> anyhow::Result<()> {
-    if input.len() < IMAGE_BYTES {
+    let Some((image, lines)) = input.split_at_mut_checked(IMAGE_BYTES) else {
         writeln!(out, "short")?;
         return Ok(());
-    }
-    let (image, lines) = input.split_at_mut(IMAGE_BYTES);
+    };
     let text = String::from_utf8_lossy(heap, lines)?;
     match Life::read(heap, text.as_str()) {
         Ok(life) => live_and_report(heap, image, &life, text.as_str(), out),
-        Err(NotALife::Line(number)) => {
-            writeln!(out, "line {number} cannot be read")?;
+        Err(NotALife::NoMemory) => Err(anyhow!("no memory")),
+        Err(why) => {
+            writeln!(out, "{why}")?;
             Ok(())
         }
-        Err(NotALife::NoMemory) => Err(anyhow!("no memory")),
     }
 }
 

@@ -2,12 +2,12 @@ use crate::step::Step;
 use hex::FromHexError;
 use history::Call;
 use std::alloc::{AllocError, AllocFailed, Global};
+use std::fmt;
 
-// The calls of a life, in their order, and the bytes of its work orders.
+// The calls of a life, in their order.
 #[derive(Drop)]
 pub struct Life {
     steps: Vec<Step>,
-    orders: Vec<u8>,
 }
 
 // Why a text is no life: a line that is no call, counted from 1, or want of memory.
@@ -15,6 +15,16 @@ pub struct Life {
 pub enum NotALife {
     Line(usize),
     NoMemory,
+}
+
+// Written out, since what `thiserror` derives for is not Copy.
+impl fmt::Display for NotALife {
+    fn fmt<W: fmt::Write>(&self, f: &mut fmt::Formatter<W>) -> fmt::Result {
+        match self {
+            NotALife::Line(number) => write!(f, "line {number} cannot be read"),
+            NotALife::NoMemory => write!(f, "no memory"),
+        }
+    }
 }
 
 impl From<AllocError> for NotALife {
@@ -33,25 +43,23 @@ impl Life {
     // Reads all lines before anything is called; blank ones are passed over.
     pub fn read(heap: Global, text: &str) -> Result<Life, NotALife> {
         let mut steps = Vec::new(heap);
-        let mut orders = Vec::new(heap);
         for (before, line) in text.lines().enumerate() {
             if is_blank(line) {
                 continue;
             }
-            let Some(step) = step_of(line, &mut orders)? else {
+            let Some(step) = step_of(heap, line)? else {
                 return Err(NotALife::Line(before.saturating_add(1)));
             };
             steps.push(step)?;
         }
-        Ok(Life { steps, orders })
+        Ok(Life { steps })
     }
 
     // The calls, with their orders.
     pub fn calls(&self, heap: Global) -> Result<Vec<Call<'_>>, AllocError> {
-        let orders = self.orders.as_slice();
         let mut calls = Vec::new(heap);
         for step in self.steps.as_slice() {
-            calls.push(call_of(*step, orders))?;
+            calls.push(step.call())?;
         }
         Ok(calls)
     }
@@ -61,15 +69,8 @@ pub(crate) fn is_blank(line: &str) -> bool {
     line.split_whitespace().next().is_none()
 }
 
-fn call_of(step: Step, orders: &[u8]) -> Call<'_> {
-    match step {
-        Step::Plain(call) => call,
-        Step::Run(from, to) => Call::Run(orders.get(from..to).unwrap_or(&[])),
-    }
-}
-
-// The call that a line has, or none. A run's bytes go behind the others.
-fn step_of(line: &str, orders: &mut Vec<u8>) -> Result<Option<Step>, NotALife> {
+// The call that a line has, or none. A run without bytes is the empty order.
+fn step_of(heap: Global, line: &str) -> Result<Option<Step>, NotALife> {
     let mut words = line.split_whitespace();
     let name = words.next().unwrap_or("");
     let first = words.next();
@@ -77,61 +78,34 @@ fn step_of(line: &str, orders: &mut Vec<u8>) -> Result<Option<Step>, NotALife> {
     if words.next().is_some() {
         return Ok(None);
     }
-    match (first, second) {
-        (None, None) => Ok(bare_step(name, orders.len())),
-        (Some(a), None) => step_with(name, a, orders),
-        (Some(a), Some(b)) => Ok(put_step(name, a, b)),
-        (None, Some(_)) => Ok(None),
+    match (name, first, second) {
+        ("run", digits, None) => run_step(heap, digits.unwrap_or("")),
+        _ => Ok(plain_call(name, first, second).map(Step::Plain)),
     }
 }
 
-// A run without bytes is the empty order.
-fn bare_step(name: &str, place: usize) -> Option<Step> {
-    let call = match name {
-        "look" => Call::Look,
-        "open" => Call::Open,
-        "check" => Call::Check,
-        "commit" => Call::Commit,
-        "discard" => Call::Discard,
-        "clear" => Call::Clear,
-        "run" => return Some(Step::Run(place, place)),
+fn plain_call(name: &str, first: Option<&str>, second: Option<&str>) -> Option<Call<'static>> {
+    let call = match (name, first, second) {
+        ("look", None, None) => Call::Look,
+        ("set", Some(to), None) => Call::Set(to.parse().ok()?),
+        ("pass", Some(seconds), None) => Call::Pass(seconds.parse().ok()?),
+        ("get", Some(cell), None) => Call::Get(cell.parse().ok()?),
+        ("open", None, None) => Call::Open,
+        ("put", Some(cell), Some(value)) => Call::Put(cell.parse().ok()?, value.parse().ok()?),
+        ("check", None, None) => Call::Check,
+        ("commit", None, None) => Call::Commit,
+        ("discard", None, None) => Call::Discard,
+        ("clear", None, None) => Call::Clear,
         _ => return None,
     };
-    Some(Step::Plain(call))
-}
-
-fn step_with(name: &str, word: &str, orders: &mut Vec<u8>) -> Result<Option<Step>, NotALife> {
-    if name == "run" {
-        return run_step(word, orders);
-    }
-    let Ok(number) = word.parse::<u32>() else {
-        return Ok(None);
-    };
-    let call = match name {
-        "set" => Call::Set(number),
-        "pass" => Call::Pass(number),
-        "get" => Call::Get(number),
-        _ => return Ok(None),
-    };
-    Ok(Some(Step::Plain(call)))
-}
-
-fn put_step(name: &str, cell: &str, value: &str) -> Option<Step> {
-    if name != "put" {
-        return None;
-    }
-    let cell = cell.parse::<u32>().ok()?;
-    let value = value.parse::<u32>().ok()?;
-    Some(Step::Plain(Call::Put(cell, value)))
+    Some(call)
 }
 
 // Two hexadecimal digits to a byte.
-fn run_step(digits: &str, orders: &mut Vec<u8>) -> Result<Option<Step>, NotALife> {
-    let from = orders.len();
-    match hex::decode(*orders.allocator(), digits) {
-        Ok(bytes) => orders.extend_from_slice(&bytes)?,
-        Err(FromHexError::OutOfMemory) => return Err(NotALife::NoMemory),
-        Err(_) => return Ok(None),
+fn run_step(heap: Global, digits: &str) -> Result<Option<Step>, NotALife> {
+    match hex::decode(heap, digits) {
+        Ok(order) => Ok(Some(Step::Run(order))),
+        Err(FromHexError::OutOfMemory) => Err(NotALife::NoMemory),
+        Err(_) => Ok(None),
     }
-    Ok(Some(Step::Run(from, orders.len())))
 }

@@ -24,8 +24,8 @@ pub(crate) fn write_looks<W: Write>(
     reader: Result<Look, Refusal>,
     out: &mut W,
 ) -> io::Result<()> {
-    let shown = Answer::from(meter);
-    let read = Answer::from(reader);
+    let shown: Answer = meter.into();
+    let read: Answer = reader.into();
     writeln!(out, "meter: {shown}")?;
     writeln!(out, "reader: {read}")?;
     match (meter, reader) {

@@ -1,8 +1,17 @@
 use history::Call;
 
-// One call as a line has it. A run has the places of its first byte and past its last among the life's order bytes.
-#[derive(Clone, Copy)]
+// One call as a line has it. A run owns the bytes of its order.
+#[derive(Drop)]
 pub enum Step {
     Plain(Call<'static>),
-    Run(usize, usize),
+    Run(Vec<u8>),
+}
+
+impl Step {
+    pub(crate) fn call(&self) -> Call<'_> {
+        match self {
+            Step::Plain(call) => *call,
+            Step::Run(order) => Call::Run(order.as_slice()),
+        }
+    }
 }

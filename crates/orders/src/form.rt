@@ -5,18 +5,12 @@ ghost use Rattle.std.specs.Prelude.{◌≡◌};
 use crate::command::next_command;
 
 // The place of the first fault in an order's form, or none: then the bytes are Open, some Puts and Checks, and Commit or Discard.
+#[tactic(auto, using(crate::proofs::Meaning::form_means, crate::proofs::Back::written_reads))]
 pub fn fault(order: &[u8]) -> Option<usize>
     ensures answer { result ≡ fault_of (form order.now) }
     ensures means { Means order.now (form order.now) }
     ensures back { WrittenReads }
     ensures only { FaultOnly }
-{
-    first_fault(order)
-}
-
-// By the commands, one after the other.
-fn first_fault(order: &[u8]) -> Option<usize>
-    ensures { result ≡ fault_of (form order.now) }
 {
     let mut rest = order;
     while let Some((command, next)) = next_command(rest) {

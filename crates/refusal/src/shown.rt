@@ -46,15 +46,10 @@ impl Refusal {
 
 impl fmt::Display for Refusal {
     fn fmt<W: fmt::Write>(&self, f: &mut fmt::Formatter<W>) -> fmt::Result {
-        let number = self.number();
-        let words = self.words();
-        match self {
-            Refusal::Inconsistent { rule, cell } => {
-                let rule = rule.number();
-                let cell = *cell;
-                write!(f, "{number} {words} (rule {rule}, cell {cell})")
-            }
-            _ => write!(f, "{number} {words}"),
+        write!(f, "{} {}", self.number(), self.words())?;
+        if let Refusal::Inconsistent { rule, cell } = self {
+            write!(f, " (rule {}, cell {cell})", rule.number())?;
         }
+        Ok(())
     }
 }

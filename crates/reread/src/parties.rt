@@ -7,8 +7,8 @@ ghost use Rattle.reread.specs.Found.{cells_after, meter_kind, time_after, unset}
 ghost use Rattle.store.specs.Words.{word_cells};
 ghost use Rattle.summer.specs.Laws.{europe};
 
-use archive::confirm;
-use clock::{Clock, CounterClock, InstantClock};
+use archive::{Parts, confirm};
+use clock::{CounterClock, InstantClock};
 use history::{Answer, Call};
 use image::ImageStore;
 use layers::Vouching;
@@ -29,29 +29,16 @@ pub(crate) fn looks(
     ensures meter { result.0 ≡ look_answer europe (cells_after image.old (take (min (length calls.now) (length answers.old)) calls.now)) (time_after (take (min (length calls.now) (length answers.old)) calls.now)) }
     ensures reader { result.1 ≡ look_answer europe (word_cells cells.old) time }
 {
-    let outcome = confirm(
-        Vouching::new(CounterClock::new()),
-        ImageStore::new(image),
-        Europe,
-        calls,
-        answers,
-        clock_at(time),
-        WordStore::new(cells),
-        Europe,
-    );
+    let meter = Parts {
+        clock: Vouching::new(CounterClock::new()),
+        store: ImageStore::new(image),
+        rule: Europe,
+    };
+    let reader = Parts {
+        clock: InstantClock::from(time),
+        store: WordStore::new(cells),
+        rule: Europe,
+    };
+    let outcome = confirm(meter, calls, answers, reader);
     (outcome.shown, outcome.read)
-}
-
-// A clock that shows this time, or none.
-fn clock_at(time: Option<u32>) -> InstantClock
-    ensures { result.second ≡ time }
-{
-    match time {
-        Some(second) => InstantClock::new(second),
-        None => {
-            let mut clock = InstantClock::new(0);
-            clock.pass(1);
-            clock
-        }
-    }
 }

@@ -11,7 +11,7 @@ use Rattle.store.specs.Cells.{Memory}
 use Rattle.engine.specs.declared.engine.Engine.{Engine}
 use Rattle.engine.specs.Engines.{OnlyEdit, OnlyCells}
 use Rattle.engine.specs.Book.{State, answer, step}
-use Rattle.runner.specs.Run.{Ended, Ending, undone, went, said, placed, finish_answer, finish_state, run_state, run_answer, order_state, order_answer}
+use Rattle.runner.specs.Run.{Ended, Ending, undone, went, said, placed, finish_answer, finish_state, run_state, run_answer, order_state, order_answer, stays_within}
 
 -- what is done so far gives the whole
 pub record Gives (s : State) (f : Form) (t : State) (g : Form) : Type 0 where
@@ -207,3 +207,18 @@ module _ {C S R : Type 0} {a b c : Engine C S R} where
 
 pub cells_too : {C S R : Type 0} {a b : Engine C S R} (memory_of : S → Memory) → OnlyEdit a b → OnlyCells memory_of a b
 cells_too memory_of x = record { clock = x.clock; rule = x.rule; memory = ap memory_of x.store }
+
+-- a command within an order
+pub within_stays : (c : Command) → stays_within c ≡ true → closes c ≡ false
+within_stays Open h = refl
+within_stays (Put a v) h = refl
+within_stays Check h = refl
+within_stays Commit h = let y : ◌≡◌ {A = ℕ} 0 1 = cc in absurd (omega arith)
+within_stays Discard h = let y : ◌≡◌ {A = ℕ} 0 1 = cc in absurd (omega arith)
+
+pub within_undone : (c : Command) (u : State) → stays_within c ≡ true → step u Discard ≡ undone c u
+within_undone Open u h = let y : ◌≡◌ {A = ℕ} 0 1 = cc in absurd (omega arith)
+within_undone (Put a v) u h = refl
+within_undone Check u h = refl
+within_undone Commit u h = let y : ◌≡◌ {A = ℕ} 0 1 = cc in absurd (omega arith)
+within_undone Discard u h = let y : ◌≡◌ {A = ℕ} 0 1 = cc in absurd (omega arith)

@@ -1,5 +1,5 @@
 -- A work order, run on the book. Assumes nothing.
-use Rattle.std.specs.Prelude.{◌≡◌, ℕ, List, [], ◌∷◌, Ok, Err, Result}
+use Rattle.std.specs.Prelude.{◌≡◌, ℕ, Bool, true, false, List, [], ◌∷◌, Ok, Err, Result}
 use Rattle.orders.specs.declared.command.Command.{Command}
 use Rattle.orders.specs.declared.command.Command.TheVariants.{Open, Put, Check, Commit, Discard}
 use Rattle.orders.specs.Form.{Form, Placed, form}
@@ -22,6 +22,7 @@ abbrev pub went : Result (Unit {0}) Refusal → State → State → State
 went (Ok u) on stop = on
 went (Err r) on stop = stop
 
+-- where nothing is refused, the rest says how the run ends: `placed` has no rest
 abbrev pub said : Result (Unit {0}) Refusal → ℕ → Result (Unit {0}) Stopped → Result (Unit {0}) Stopped
 said (Ok u) place on = on
 said (Err r) place on = Err (record { place = place; why = r })
@@ -30,6 +31,14 @@ said (Err r) place on = Err (record { place = place; why = r })
 abbrev pub placed : {T : Type 0} → ℕ → Result T Refusal → Result T Stopped
 placed place (Ok x) = Ok x
 placed place (Err why) = Err (record { place = place; why = why })
+
+-- a command that neither opens nor closes an order
+abbrev pub stays_within : Command → Bool
+stays_within Open = false
+stays_within (Put c v) = true
+stays_within Check = true
+stays_within Commit = false
+stays_within Discard = false
 
 -- the book after the commands, up to the first refusal
 unfoldable pub run_state : State → List Placed → State

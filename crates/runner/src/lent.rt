@@ -19,7 +19,7 @@ pub fn run_on_image(image: &mut [u8], order: &[u8]) -> Result<(), Stopped>
     answer
 }
 
-// The memory is handed back, for its lender to know what it holds.
+// The memory is handed back, for its lender to know what it holds: let go in the same function, it is unknown afterwards.
 fn image_after<'a>(image: &'a mut [u8], order: &[u8]) -> (Result<(), Stopped>, &'a mut [u8])
     ensures answer { result.0 ≡ ran_answer (unedited (image_cells image.old)) order.now }
     ensures memory { result.1.now ≡ image_of (ran (unedited (image_cells image.old)) order.now).cells ++ image_rest image.old }

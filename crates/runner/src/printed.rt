@@ -4,8 +4,6 @@ use std::fmt;
 // The refusal, and the place of its command.
 impl fmt::Display for Stopped {
     fn fmt<W: fmt::Write>(&self, f: &mut fmt::Formatter<W>) -> fmt::Result {
-        let why = self.why;
-        let place = self.place;
-        write!(f, "{why} at place {place}")
+        write!(f, "{} at place {}", self.why, self.place)
     }
 }

@@ -1,6 +1,7 @@
-ghost use Rattle.std.specs.Prelude.{◌≡◌, ◌-◌, ◌<◌, length, None};
+ghost use Rattle.std.specs.Prelude.{◌≡◌, ◌-◌, ◌<◌, length, true, None};
 ghost use Rattle.orders.specs.Form.{fault_of, reads_on};
-ghost use Rattle.runner.specs.Run.{Ended, finish_answer, finish_state, placed, ran, ran_answer};
+ghost use Rattle.runner.specs.Run.{Ended, finish_answer, finish_state, placed, ran, ran_answer, stays_within};
+ghost use Rattle.engine.specs.Book.{answer, step};
 ghost use Rattle.engine.specs.Engines.{OnlyCells, OnlyEdit, state_of};
 
 use crate::stopped::{Closing, Stopped};
@@ -30,12 +31,29 @@ fn perform<C: Clock, S: Store, R: SummerRule>(
         };
         match command {
             Command::Open => unreachable(),
-            Command::Put(c, v) => placed(place, engine.put(t, c, v))?,
-            Command::Check => placed(place, engine.check())?,
             Command::Commit => return Ok(Closing::Commit(place)),
             Command::Discard => return Ok(Closing::Discard(place)),
+            _ => placed(place, enter(engine, t, command))?,
         }
         left = next;
+    }
+}
+
+// A command that neither opens nor closes an order.
+fn enter<C: Clock, S: Store, R: SummerRule>(
+    engine: &mut Engine<C, S, R>,
+    t: &Ticket,
+    command: Command,
+) -> Result<(), Refusal>
+    requires { stays_within command ≡ true }
+    ensures answer { result ≡ answer (state_of S.cells engine.old) command }
+    ensures after { state_of S.cells engine.new ≡ step (state_of S.cells engine.old) command }
+    ensures same { OnlyEdit engine.old engine.new }
+{
+    match command {
+        Command::Put(c, v) => engine.put(t, c, v),
+        Command::Check => engine.check(),
+        _ => unreachable(),
     }
 }
 

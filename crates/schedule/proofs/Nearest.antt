@@ -1,7 +1,8 @@
 -- The least of the candidates is the least later boundary.
-use Rattle.std.proofs.Common.{◌≡◌, ℕ, zero, suc, ◌+◌, ◌-◌, ◌*◌, ◌<◌, ◌≤◌, Bool, true, false, cond, ◌&&◌, eqb, ltb, leb, ◌⊎◌, List, [], ◌∷◌, ◌++◌, length, get_or, Some, None, Option, sym, refl, ap, ◌∙◌, subst, ap₂, inl, inr, arith}
+use Rattle.std.proofs.Common.{◌≡◌, ℕ, ◌+◌, ◌-◌, ◌*◌, ◌<◌, ◌≤◌, Bool, true, false, cond, ◌&&◌, eqb, ltb, leb, List, [], ◌∷◌, get_or, Some, None, Option, sym, refl, ap, ◌∙◌, subst, ap₂, inl, inr, arith}
 use Rattle.std.proofs.lemmas.Bool.{or_from, or_left, or_right, cases_Bool, eq-eqb, ne_eqb, cases_lt, ltb-true, ltb-false, leb-true, leb-false}
-use Rattle.std.specs.List.{flat_map}
+use Rattle.std.specs.List.{Contains, flat_map}
+use Rattle.std.proofs.lemmas.List.Elements.{All-contains, All-from_get_or, Contains-append_cases, Contains-append_left, Contains-append_right, Contains-push, Contains-push_cases}
 use Rattle.std.proofs.lemmas.List.MinMax.{IsStrictWeakOrder-by_number}
 use Rattle.keeper.specs.Least.{least_later, changes, IsLeast}
 use Rattle.keeper.specs.Best.{first_best, IsFirstBest}
@@ -13,49 +14,26 @@ use Rattle.schedule.specs.Candidates.{up_to, ahead, today, candidates, next_chan
 use Rattle.tables.specs.declared.event.Event.{Event}
 use Rattle.schedule.proofs.Running.{Calm, placed, midnight, falls_at, events_at_lem}
 
--- x is in the list
-abbrev In : ℕ → List ℕ → Type 0
-In x [] = ⊥
-In x (y ∷ ys) = (y ≡ x) ⊎ In x ys
-
 -- no number of the list is below b
 abbrev From : ℕ → List ℕ → Type 0
-From b xs = (x : ℕ) → In x xs → b ≤ x
+From b xs = (x : ℕ) → Contains xs x → b ≤ x
 
-in-get_d : (xs : List ℕ) (i d : ℕ) → i < length xs → In (get_or xs i d) xs
-in-get_d [] i d h = absurd (omega arith)
-in-get_d (x ∷ xs) zero d h = inl refl
-in-get_d (x ∷ xs) (suc i) d h = inr (in-get_d xs i d (omega arith))
+nothing : (x : ℕ) → Contains [] x → ⊥
+nothing x (k, l, e) = omega arith
 
-placed_in : (xs : List ℕ) (x d : ℕ) → In x xs → (i : ℕ) × (i < length xs) × (get_or xs i d ≡ x)
-placed_in [] x d h = absurd h
-placed_in (y ∷ ys) x d (inl e) = (0, omega arith, e)
-placed_in (y ∷ ys) x d (inr h) = let (i, l, e) = placed_in ys x d h in (suc i, omega arith, e)
-
-in_left : (xs ys : List ℕ) (x : ℕ) → In x xs → In x (xs ++ ys)
-in_left [] ys x h = absurd h
-in_left (y ∷ xs) ys x (inl e) = inl e
-in_left (y ∷ xs) ys x (inr h) = inr (in_left xs ys x h)
-
-in_right : (xs ys : List ℕ) (x : ℕ) → In x ys → In x (xs ++ ys)
-in_right [] ys x h = h
-in_right (y ∷ xs) ys x h = inr (in_right xs ys x h)
-
-in_either : (xs ys : List ℕ) (x : ℕ) → In x (xs ++ ys) → In x xs ⊎ In x ys
-in_either [] ys x h = inr h
-in_either (y ∷ xs) ys x (inl e) = inl (inl e)
-in_either (y ∷ xs) ys x (inr h) = elim (in_either xs ys x h) [ inl g ↦ inl (inr g) | inr g ↦ inr g ]
+alone_is : (n x : ℕ) → Contains (n ∷ []) x → n ≡ x
+alone_is n x h = elim (Contains-push_cases [] n x h) [ inl g ↦ absurd (nothing x g) | inr e ↦ e ]
 
 -- the least of a list
 abbrev IsMin : List ℕ → Option ℕ → Type 0
-IsMin xs (Some c) = In c xs × From c xs
+IsMin xs (Some c) = Contains xs c × From c xs
 IsMin xs None = xs ≡ []
 
 least_of : (xs : List ℕ) (o : Option ℕ) → IsFirstBest (λ x y. ltb x y) xs o → IsMin xs o
 least_of xs None h = h
 least_of xs (Some c) h = (
-  subst (λ (x : ℕ). In x xs) (sym h.is) (in-get_d xs h.place c h.within),
-  λ x i. let (k, l, e) = placed_in xs x c i in let g = ltb-false (get_or xs k c) c (h.best k l) in omega arith,
+  (h.place, h.within, sym h.is),
+  λ x i. All-contains (λ y. c ≤ y) xs x (All-from_get_or (λ y. c ≤ y) xs c (λ k l. let g = ltb-false (get_or xs k c) c (h.best k l) in omega arith)) i,
 )
 
 -- a second that is offered only up to the last
@@ -63,16 +41,15 @@ up_to-from : (b n : ℕ) → b ≤ 4294967296 → From b (up_to n) → b ≤ n
 up_to-from b n h a = by (leb n 4294967295) refl a
   where
     by : (w : Bool) → leb n 4294967295 ≡ w → From b (cond w (n ∷ []) []) → b ≤ n
-    by true e g = g n (inl refl)
+    by true e g = g n (Contains-push [] n)
     by false e g = let f = leb-false n 4294967295 e in omega arith
 
-up_to-in : (x n : ℕ) → In x (up_to n) → (x ≡ n) × (n ≤ 4294967295)
+up_to-in : (x n : ℕ) → Contains (up_to n) x → (x ≡ n) × (n ≤ 4294967295)
 up_to-in x n a = by (leb n 4294967295) refl a
   where
-    by : (w : Bool) → leb n 4294967295 ≡ w → In x (cond w (n ∷ []) []) → (x ≡ n) × (n ≤ 4294967295)
-    by true e (inl g) = (sym g, leb-true n 4294967295 e)
-    by true e (inr g) = absurd g
-    by false e g = absurd g
+    by : (w : Bool) → leb n 4294967295 ≡ w → Contains (cond w (n ∷ []) []) x → (x ≡ n) × (n ≤ 4294967295)
+    by true e g = (sym (alone_is n x g), leb-true n 4294967295 e)
+    by false e g = absurd (nothing x g)
 
 ahead_from : (t s b : ℕ) (e : Event) (j : ℕ) → b ≤ 4294967296 → From b (ahead t s e) → s < j → t + (j - s) < b → eqb (e.minute * 60) j ≡ false
 ahead_from t s b e j h a u v = by (ltb s (e.minute * 60)) refl a
@@ -81,29 +58,29 @@ ahead_from t s b e j h a u v = by (ltb s (e.minute * 60)) refl a
     by true q g = let n = up_to-from b (t + (e.minute * 60 - s)) h g in ne_eqb (e.minute * 60) j (omega arith)
     by false q g = let f = ltb-false s (e.minute * 60) q in ne_eqb (e.minute * 60) j (omega arith)
 
-ahead_in : (t s x : ℕ) (e : Event) → In x (ahead t s e) → (t < x) × (x ≤ 4294967295) × (eqb (e.minute * 60) (s + (x - t)) ≡ true)
+ahead_in : (t s x : ℕ) (e : Event) → Contains (ahead t s e) x → (t < x) × (x ≤ 4294967295) × (eqb (e.minute * 60) (s + (x - t)) ≡ true)
 ahead_in t s x e a = by (ltb s (e.minute * 60)) refl a
   where
-    by : (w : Bool) → ltb s (e.minute * 60) ≡ w → In x (cond w (up_to (t + (e.minute * 60 - s))) []) → (t < x) × (x ≤ 4294967295) × (eqb (e.minute * 60) (s + (x - t)) ≡ true)
+    by : (w : Bool) → ltb s (e.minute * 60) ≡ w → Contains (cond w (up_to (t + (e.minute * 60 - s))) []) x → (t < x) × (x ≤ 4294967295) × (eqb (e.minute * 60) (s + (x - t)) ≡ true)
     by true q g =
         let l = ltb-true s (e.minute * 60) q in
         let v = up_to-in x (t + (e.minute * 60 - s)) g in
         (omega (arith, v), omega (arith, v), eq-eqb (e.minute * 60) (s + (x - t)) (omega (arith, v)))
-    by false q g = absurd g
+    by false q g = absurd (nothing x g)
 
 starts_from : (t s b : ℕ) (es : List Event) → b ≤ 4294967296 → From b (flat_map (ahead t s) es) → (j : ℕ) → s < j → t + (j - s) < b → starts_now es j ≡ false
 unfolding starts_now
 starts_from t s b [] h a j u v = refl
 starts_from t s b (e ∷ es) h a j u v =
     or_from (eqb (e.minute * 60) j) _
-    (ahead_from t s b e j h (λ x i. a x (in_left (ahead t s e) _ x i)) u v)
-    (starts_from t s b es h (λ x i. a x (in_right (ahead t s e) _ x i)) j u v)
+    (ahead_from t s b e j h (λ x i. a x (Contains-append_left (ahead t s e) _ x i)) u v)
+    (starts_from t s b es h (λ x i. a x (Contains-append_right (ahead t s e) _ x i)) j u v)
 
-starts_in : (t s x : ℕ) (es : List Event) → In x (flat_map (ahead t s) es) → (t < x) × (x ≤ 4294967295) × (starts_now es (s + (x - t)) ≡ true)
+starts_in : (t s x : ℕ) (es : List Event) → Contains (flat_map (ahead t s) es) x → (t < x) × (x ≤ 4294967295) × (starts_now es (s + (x - t)) ≡ true)
 unfolding starts_now
-starts_in t s x [] a = absurd a
+starts_in t s x [] a = absurd (nothing x a)
 starts_in t s x (e ∷ es) a =
-    elim (in_either (ahead t s e) (flat_map (ahead t s) es) x a) [
+    elim (Contains-append_cases (ahead t s e) (flat_map (ahead t s) es) x a) [
       | inl g ↦ let (p, q, r) = ahead_in t s x e g in (p, q, or_left (eqb (e.minute * 60) (s + (x - t))) _ r)
       | inr g ↦ let (p, q, r) = starts_in t s x es g in (p, q, or_right (eqb (e.minute * 60) (s + (x - t))) _ r)
     ]
@@ -122,13 +99,12 @@ module _ (z : Setting) (t : ℕ) where
   next_change_lem = next z.summer z.in_force t 4294967295
 
   change_from : (c : Option ℕ) (b : ℕ) → b ≤ 4294967296 → IsLeast change t 4294967295 c → From b (alone c) → (k : ℕ) → t < k → k < b → change k ≡ false
-  change_from (Some c) b h l a k u v = let g = a c (inl refl) in l.first k u (omega arith)
+  change_from (Some c) b h l a k u v = let g = a c (Contains-push [] c) in l.first k u (omega arith)
   change_from None b h l a k u v = l k u (omega arith)
 
-  change_in : (c : Option ℕ) (x : ℕ) → IsLeast change t 4294967295 c → In x (alone c) → (t < x) × (x ≤ 4294967295) × (change x ≡ true)
-  change_in (Some c) x l (inl e) = (omega (arith, l.later), omega (arith, l.within), subst (λ (k : ℕ). change k ≡ true) e l.holds)
-  change_in (Some c) x l (inr e) = absurd e
-  change_in None x l e = absurd e
+  change_in : (c : Option ℕ) (x : ℕ) → IsLeast change t 4294967295 c → Contains (alone c) x → (t < x) × (x ≤ 4294967295) × (change x ≡ true)
+  change_in (Some c) x l h = let e = alone_is c x h in (omega (arith, l.later), omega (arith, l.within), subst (λ (k : ℕ). change k ≡ true) e l.holds)
+  change_in None x l h = absurd (nothing x h)
 
   -- what is before b: no end of the day, no start and no change
   record Below (b : ℕ) : Type 0 where
@@ -139,11 +115,11 @@ module _ (z : Setting) (t : ℕ) where
   below : (b : ℕ) → b ≤ 4294967296 → From b (candidates t (time_at z t) (events_at z t) (next_change z t)) → Below b
   unfolding today
   below b h a =
-      let first : From b (today t (time_at z t) (events_at z t)) = λ x i. a x (in_left (today t (time_at z t) (events_at z t)) _ x i) in
+      let first : From b (today t (time_at z t) (events_at z t)) = λ x i. a x (Contains-append_left (today t (time_at z t) (events_at z t)) _ x i) in
       record {
-        day = up_to-from b (t + (86400 - time_at z t)) h (λ x i. first x (in_left (up_to (t + (86400 - time_at z t))) _ x i));
-        starts = starts_from t (time_at z t) b (events_at z t) h (λ x i. first x (in_right (up_to (t + (86400 - time_at z t))) _ x i));
-        changes = change_from (next_change z t) b h next_change_lem (λ x i. a x (in_right (today t (time_at z t) (events_at z t)) _ x i));
+        day = up_to-from b (t + (86400 - time_at z t)) h (λ x i. first x (Contains-append_left (up_to (t + (86400 - time_at z t))) _ x i));
+        starts = starts_from t (time_at z t) b (events_at z t) h (λ x i. first x (Contains-append_right (up_to (t + (86400 - time_at z t))) _ x i));
+        changes = change_from (next_change z t) b h next_change_lem (λ x i. a x (Contains-append_right (today t (time_at z t) (events_at z t)) _ x i));
       }
 
   -- so there is no boundary
@@ -207,16 +183,16 @@ module _ (z : Setting) (t : ℕ) where
     pub within : x ≤ 4294967295
     pub struck : Below x → boundary z x ≡ true
 
-  hit : (x : ℕ) → In x (candidates t (time_at z t) (events_at z t) (next_change z t)) → Hit x
+  hit : (x : ℕ) → Contains (candidates t (time_at z t) (events_at z t) (next_change z t)) x → Hit x
   unfolding today
   hit x i =
       let f = (falls_at z t).below in
-      elim (in_either (today t (time_at z t) (events_at z t)) _ x i) [
+      elim (Contains-append_cases (today t (time_at z t) (events_at z t)) _ x i) [
         | inr g ↦
             let (p, q, r) = change_in (next_change z t) x next_change_lem g in
             record { later = p; within = q; struck = λ h. struck_change x r }
         | inl g ↦
-            elim (in_either (up_to (t + (86400 - time_at z t))) _ x g) [
+            elim (Contains-append_cases (up_to (t + (86400 - time_at z t))) _ x g) [
               | inl v ↦
                   let e = up_to-in x (t + (86400 - time_at z t)) v in
                   record { later = omega (arith, e); within = omega (arith, e); struck = λ h. at_midnight x h e.0 }
@@ -233,7 +209,7 @@ module _ (z : Setting) (t : ℕ) where
       let h = below x (omega arith) a in
       record { later = g.later; within = w; holds = g.struck h; first = none_below x h }
   is_least None e = λ k u v.
-      none_below 4294967296 (below 4294967296 (omega arith) (λ x i. absurd (subst (In x) e i))) k u (omega arith)
+      none_below 4294967296 (below 4294967296 (omega arith) (λ x i. absurd (nothing x (subst (λ (ys : List ℕ). Contains ys x) e i)))) k u (omega arith)
 
   -- the first best of the candidates under 'earlier' is the next boundary
   pub nearest : first_best (λ x y. ltb x y) (candidates t (time_at z t) (events_at z t) (next_change z t)) ≡ least_later (boundary z) t 4294967295

@@ -10,12 +10,14 @@ use Rattle.keeper.proofs.Offering.{best_own}
 use Rattle.keeper.proofs.Orders.{numbers}
 use Rattle.schedule.specs.Candidates.{up_to, ahead}
 use Rattle.schedule.specs.Soonest.{SoonestOf}
+use Rattle.tables.specs.Numbered.{alone}
 use Rattle.tables.specs.declared.event.Event.{Event}
 
 -- the loop over the day's events: its start and its end
-pub begin : (t s n : ℕ) (kept : Option (Offer ℕ ℕ)) → n ≡ 86400 - s → SoonestOf (up_to (t + n)) kept → SoonestOf (up_to (t + (86400 - s)) ++ []) kept
-begin t s n kept e k =
-    k ∙ ap (λ (xs : List ℕ). first_best (ranked nat_cmp) (map (own (λ n. n)) xs)) (ap (λ (m : ℕ). up_to (t + m)) e ∙ sym (append-nil (up_to (t + (86400 - s)))))
+pub begin : (t s n : ℕ) (midnight : Option ℕ) (kept : Option (Offer ℕ ℕ)) → n ≡ 86400 - s → alone midnight ≡ up_to (t + n) → SoonestOf (alone midnight) kept
+    → SoonestOf (up_to (t + (86400 - s)) ++ []) kept
+begin t s n midnight kept e m k =
+    k ∙ ap (λ (xs : List ℕ). first_best (ranked nat_cmp) (map (own (λ n. n)) xs)) (m ∙ ap (λ (m : ℕ). up_to (t + m)) e ∙ sym (append-nil (up_to (t + (86400 - s)))))
 
 pub end : (ms : List ℕ) (t s i : ℕ) (es : List Event) (kept : Option (Offer ℕ ℕ)) → length es ≤ i
     → SoonestOf (ms ++ flat_map (ahead t s) (take i es)) kept → SoonestOf (ms ++ flat_map (ahead t s) es) kept

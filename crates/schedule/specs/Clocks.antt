@@ -1,8 +1,14 @@
--- The setting that a local clock goes by. Assumes nothing.
+-- The setting that a local clock goes by, and the times that it tells. Assumes nothing.
+use Rattle.std.specs.Prelude.{ℤ, pos, negsuc, ◌≤ℤ◌}
 use Rattle.tables.specs.Filled.{timetable_in}
 use Rattle.schedule.specs.Boundaries.{Setting}
 use Rattle.schedule.specs.Looks.{Rule, setting_of}
 use Rattle.schedule.specs.declared.local_clock.LocalClock.{LocalClock}
+
+-- from the first second at the westmost offset to the last at the eastmost, in summer
+pub record IsLocalTime (local : ℤ) : Type 0 where
+  pub from : negsuc 43199 ≤ℤ local
+  pub to : local ≤ℤ pos 4295014095
 
 -- that of its tables, under its rule
 abbrev pub setting_by : {R : Type 0} → (R → Rule) → LocalClock R → Setting

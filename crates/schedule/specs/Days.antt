@@ -4,6 +4,11 @@ use Rattle.calendar.specs.Months.{month_first_of, month_at}
 use Rattle.calendar.specs.Dates.{InDays, IsDate}
 use Rattle.keeper.specs.Least.{least_later}
 
+-- the calendar has the day d, and so many days before it
+pub record Reaches (d : ℤ) (back : ℕ) : Type 0 where
+  pub first : InDays (d -ℤ pos back)
+  pub last : InDays d
+
 -- the first month that begins after a day: the day lies in the month before it
 unfoldable pub next_month : ℤ → Option ℕ
 next_month d = least_later (λ k. int_lt d (month_first_of k)) 0 1635

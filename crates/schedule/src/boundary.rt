@@ -1,13 +1,13 @@
-ghost use Rattle.std.specs.Prelude.{◌≡◌, ℕ, ◌+◌, List, ◌++◌, nat_lt};
+ghost use Rattle.std.specs.Prelude.{◌≡◌, ℕ, List, ◌++◌, nat_lt};
 ghost use Rattle.keeper.specs.Best.{first_best};
-ghost use Rattle.schedule.specs.Candidates.{ahead, candidates, LastFrom, today, up_to};
+ghost use Rattle.schedule.specs.Candidates.{ahead, candidates, LastFrom};
 ghost use Rattle.tables.specs.Numbered.{alone};
 ghost use Rattle.schedule.specs.Soonest.{SoonestOf};
 
 use keeper::Keeper;
 use tables::Event;
 
-// Offers a second, where there is one.
+// Offers a second, where there is one, by itself as its rank and its place.
 fn offer_second(soonest: &mut Keeper<u32, u32>, second: Option<u32>)
     ensures { (xs : List ℕ) → SoonestOf xs soonest.old.best → SoonestOf (xs ++ alone second) soonest.new.best }
 {
@@ -16,42 +16,27 @@ fn offer_second(soonest: &mut Keeper<u32, u32>, second: Option<u32>)
     }
 }
 
-// Offers the second that lies so many seconds after t, unless it is past the last one.
-fn offer_after(soonest: &mut Keeper<u32, u32>, t: u32, seconds: u32)
-    ensures { (xs : List ℕ) → SoonestOf xs soonest.old.best → SoonestOf (xs ++ up_to (t + seconds)) soonest.new.best }
-{
-    offer_second(soonest, t.checked_add(seconds));
-}
-
-// Offers the start of an event, where it comes later in the day.
-fn offer_start(soonest: &mut Keeper<u32, u32>, t: u32, time: u32, event: Event)
-    ensures { (xs : List ℕ) → SoonestOf xs soonest.old.best → SoonestOf (xs ++ ahead t time event) soonest.new.best }
+// The start of an event, where it comes later in the day and is not past the last second.
+fn start_after(t: u32, time: u32, event: Event) -> Option<u32>
+    ensures { alone result ≡ ahead t time event }
 {
     let start = u32::from(event.minute) * 60;
     if time < start {
-        offer_after(soonest, t, start - time);
+        t.checked_add(start - time)
+    } else {
+        None
     }
 }
 
-// The soonest of midnight and the starts that come later in the day.
-#[tactic(auto, using(crate::proofs::Soon::end), unfolding(crate::specs::Candidates::today))]
-fn soonest_today(t: u32, time: u32, events: &[Event]) -> Keeper<u32, u32>
-    ensures { SoonestOf (today t time events.now) result.best }
-{
-    let mut soonest = Keeper::new();
-    offer_after(&mut soonest, t, 86400u32.saturating_sub(time));
-    for &event in events {
-        offer_start(&mut soonest, t, time, event);
-    }
-    soonest
-}
-
-// The soonest of these and the rule's next change.
-#[tactic(auto, using(crate::proofs::Soon::soonest_is))]
+// The soonest of midnight, the starts that come later in the day and the rule's next change.
 fn next_boundary(t: u32, time: u32, events: &[Event], change: Option<u32>) -> Option<u32>
     ensures { result ≡ first_best (λ x y. nat_lt x y) (candidates t time events.now change) }
 {
-    let mut soonest = soonest_today(t, time, events);
+    let mut soonest = Keeper::new();
+    offer_second(&mut soonest, t.checked_add(86400u32.saturating_sub(time)));
+    for &event in events {
+        offer_second(&mut soonest, start_after(t, time, event));
+    }
     offer_second(&mut soonest, change);
     soonest.best_place()
 }

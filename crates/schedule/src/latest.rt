@@ -5,6 +5,13 @@ use keeper::best_of;
 use std::cmp::Reverse;
 use tables::Event;
 
+// The later start ranks first.
+fn by_start(event: &Event) -> Reverse<u16>
+    ensures { result ≡ record { 0 = event.now.minute } }
+{
+    Reverse(event.minute)
+}
+
 // The latest of the events that have started at a second of the day; of equal times the lowest number.
 pub(crate) fn latest_started(events: &[Event], second: u32) -> Option<Event>
     ensures { result ≡ latest_of (started_by second events.now) }
@@ -12,7 +19,7 @@ pub(crate) fn latest_started(events: &[Event], second: u32) -> Option<Event>
     best_of(
         events,
         |event| u32::from(event.minute) * 60 <= second,
-        |event| Reverse(event.minute),
+        by_start,
     )
 }
 
@@ -20,5 +27,5 @@ pub(crate) fn latest_started(events: &[Event], second: u32) -> Option<Event>
 pub(crate) fn latest(events: &[Event]) -> Option<Event>
     ensures { result ≡ latest_of events.now }
 {
-    best_of(events, |_| true, |event| Reverse(event.minute))
+    best_of(events, |_| true, by_start)
 }

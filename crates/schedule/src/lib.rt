@@ -10,7 +10,6 @@ mod local_clock;
 mod looking;
 mod moment;
 mod opening;
-mod plans;
 mod printed;
 mod row_in_force;
 mod shown;

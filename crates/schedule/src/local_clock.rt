@@ -1,9 +1,10 @@
 ghost use Rattle.localtime.specs.Local.{day_of};
 ghost use Rattle.schedule.specs.Boundaries.{local_at};
 ghost use Rattle.schedule.specs.Candidates.{next_change};
-ghost use Rattle.schedule.specs.Clocks.{setting_by};
+ghost use Rattle.schedule.specs.Clocks.{IsLocalTime, setting_by};
+ghost use Rattle.schedule.specs.Days.{Reaches};
 ghost use Rattle.schedule.specs.Moments.{IsMoment};
-ghost use Rattle.std.specs.Prelude.{◌≡◌, ◌&&◌, pos, negsuc, ◌≤ℤ◌, ◌<ℤ◌};
+ghost use Rattle.std.specs.Prelude.{◌≡◌, ◌&&◌};
 
 use crate::moment::Moment;
 use localtime::{day_number, local_time, time_of_day};
@@ -18,11 +19,9 @@ pub(crate) struct LocalClock<'a, R> {
 }
 
 fn day_at(local_time: i64) -> i32
-    requires from { negsuc 43199 ≤ℤ local_time }
-    requires to { local_time ≤ℤ pos 4295014095 }
+    requires { IsLocalTime local_time }
     ensures answer { result ≡ day_of local_time }
-    ensures from { negsuc 0 ≤ℤ result }
-    ensures to { result <ℤ pos 49712 }
+    ensures week { Reaches result 7 }
 {
     day_number(local_time) as i32
 }
@@ -49,8 +48,7 @@ impl<R: SummerRule> LocalClock<'_, R> {
     // Local time: the calendar has every day that it can reach.
     fn local_at(&self, second: u32) -> i64
         ensures answer { result ≡ local_at (setting_by R.SummerRule.in_force self.now) second }
-        ensures from { negsuc 43199 ≤ℤ result }
-        ensures to { result ≤ℤ pos 4295014095 }
+        ensures reach { IsLocalTime result }
     {
         local_time(second, self.tables.offset, self.in_summer(second))
     }

@@ -1,9 +1,10 @@
+ghost use Rattle.schedule.specs.Days.{Reaches};
 ghost use Rattle.schedule.specs.EventInForce.{event_in_force};
 ghost use Rattle.tables.specs.Filled.{timetable_in};
 ghost use Rattle.schedule.specs.Looks.{look_of};
 ghost use Rattle.schedule.specs.Moments.{LookFrom};
 ghost use Rattle.schedule.specs.Plans.{plan_on};
-ghost use Rattle.std.specs.Prelude.{◌≡◌, pos, negsuc, ◌≤ℤ◌, ◌<ℤ◌};
+ghost use Rattle.std.specs.Prelude.{◌≡◌};
 
 use crate::answer::Look;
 use crate::boundary::last_second;
@@ -11,42 +12,37 @@ use crate::latest::latest_started;
 use crate::local_clock::LocalClock;
 use crate::moment::Moment;
 use crate::opening::opening_event;
-use crate::plans::{number_of, plan_of, row_of};
+use crate::row_in_force::row_on;
 use crate::shown::EventInForce;
 use summer::SummerRule;
 use tables::Tables;
 
 // The latest of today's events that have started, or the day's opening event.
-#[tactic(auto, using(crate::proofs::Wholes::started))]
 fn event_in_force(tables: &Tables, day: i32, plan: u8, time: u32) -> Option<EventInForce>
-    requires from { negsuc 23 ≤ℤ day }
-    requires to { day <ℤ pos 49732 }
+    requires week { Reaches day 7 }
     requires today { plan ≡ plan_on (timetable_in tables.now) day }
     ensures { result ≡ event_in_force (timetable_in tables.now) day time }
 {
-    match latest_started(tables.events_of(plan), time) {
-        Some(event) => Some(EventInForce::of(event, plan, 0)),
-        None => opening_event(tables, day),
-    }
+    latest_started(tables.events_of(plan), time)
+        .map(|event| EventInForce::of(event, plan, 0))
+        .or_else(|| opening_event(tables, day))
 }
 
 // Where no event is in force, it shows as zeros.
-#[tactic(auto, using(crate::proofs::Wholes::plan_is))]
 fn look_at(tables: &Tables, second: u32, moment: Moment, change: Option<u32>) -> Look
     ensures { LookFrom (timetable_in tables.now) second moment change result }
 {
-    let row = row_of(tables, moment.day);
-    let plan = plan_of(row);
-    let event = event_in_force(tables, moment.day, plan, moment.time).unwrap_or_default();
+    let row = row_on(tables, moment.day);
+    let event = event_in_force(tables, moment.day, row.plan, moment.time).unwrap_or_default();
     Look {
         local_time: moment.local_time,
-        row: number_of(row),
-        plan,
+        row: row.number,
+        plan: row.plan,
         event_plan: event.plan,
         event: event.number,
         days_back: event.days_back,
         tariff: event.tariff,
-        last_second: last_second(second, moment.time, tables.events_of(plan), change),
+        last_second: last_second(second, moment.time, tables.events_of(row.plan), change),
     }
 }
 

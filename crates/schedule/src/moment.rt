@@ -1,11 +1,10 @@
-ghost use Rattle.std.specs.Prelude.{pos, negsuc, ◌≤ℤ◌, ◌<ℤ◌};
+ghost use Rattle.schedule.specs.Days.{Reaches};
 
-// A second by the local clock: the local time, its day and its second of the day.
+// A second by the local clock: the local time, its day and its second of the day; a look goes a week back.
 #[derive(Clone, Copy, Drop)]
 pub struct Moment {
     pub(crate) local_time: i64,
     pub(crate) day: i32,
     pub(crate) time: u32,
-    ghost from: { negsuc 0 ≤ℤ day },
-    ghost to: { day <ℤ pos 49712 },
+    ghost week: { Reaches day 7 },
 }

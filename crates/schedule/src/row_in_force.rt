@@ -1,10 +1,12 @@
 ghost use Rattle.calendar.specs.Dates.{InDays};
-ghost use Rattle.schedule.specs.RowInForce.{best_row, fits, row_on};
+ghost use Rattle.schedule.specs.Plans.{plan_on};
+ghost use Rattle.schedule.specs.RowInForce.{best_row, fits, row_number, row_on};
 ghost use Rattle.std.specs.Prelude.{◌≡◌};
+ghost use Rattle.tables.specs.Filled.{timetable_in};
 
 use crate::day::Day;
 use keeper::best_of;
-use tables::{Row, has_bit};
+use tables::{Row, Tables, has_bit};
 
 fn fits_day(row: &Row, day: Day) -> bool
     ensures { result ≡ fits day.month day.weekday day.date row.now }
@@ -21,10 +23,12 @@ fn best_row(rows: &[Row], day: Day) -> Option<Row>
     best_of(rows, |row| fits_day(row, day), |row| row.counts)
 }
 
-// The row in force on a day of the calendar.
-pub(crate) fn row_on(rows: &[Row], day: i32) -> Option<Row>
+// The row in force on a day of the calendar; with no fitting row, its number and its plan are 0.
+#[tactic(auto, unfolding(crate::specs::Plans::plan_on))]
+pub(crate) fn row_on(tables: &Tables, day: i32) -> Row
     requires { InDays day }
-    ensures { result ≡ row_on rows.now day }
+    ensures number { result.number ≡ row_number (row_on (timetable_in tables.now).rows day) }
+    ensures plan { result.plan ≡ plan_on (timetable_in tables.now) day }
 {
-    best_row(rows, Day::of(day))
+    best_row(tables.rows(), Day::of(day)).unwrap_or_default()
 }

@@ -1,4 +1,4 @@
-ghost use Rattle.std.specs.Prelude.{◌≡◌, ℕ, ◌^◌, ◌<◌, List, length, nat_lt, slice_get, slice_set};
+ghost use Rattle.std.specs.Prelude.{◌≡◌, ℕ, ◌^◌, ◌<◌, List, length, nat_lt, slice_index, slice_set};
 ghost use Rattle.store.specs.Formats.{FormatLaws};
 
 // How cells lie in a memory.
@@ -23,7 +23,8 @@ pub trait Format {
     // What every format keeps of these.
     ghost laws: { FormatLaws cells width };
 
-    // What holds of every memory: the cells and what lies past them are all of it.
+    // What holds of every memory: the cells and what lies past them are all of it. It does nothing: the check knows of a
+    // slice that is passed on that each unit is one of its type.
     fn known(memory: &[Self::Unit])
         ensures each { Held memory.now }
         ensures whole { made (cells memory.now) (rest memory.now) ≡ memory.now };
@@ -36,9 +37,10 @@ pub trait Format {
     fn has(memory: &[Self::Unit], c: u32) -> bool
         ensures { result ≡ nat_lt c (length (cells memory.now)) };
 
-    // What a cell holds, if it is there.
-    fn read(memory: &[Self::Unit], c: u32) -> Option<u32>
-        ensures { result ≡ slice_get (cells memory.now) c };
+    // What a cell holds.
+    fn read(memory: &[Self::Unit], c: u32) -> u32
+        requires { c < length (cells memory.now) }
+        ensures { result ≡ slice_index (cells memory.now) c };
 
     // Whether a cell is wide enough for a value.
     fn holds(c: u32, v: u32) -> bool

@@ -38,8 +38,8 @@ impl Format for Words {
         (c as usize) < cells_in(memory).len()
     }
 
-    fn read(memory: &[u32], c: u32) -> Option<u32> {
-        cells_in(memory).get(c as usize).copied()
+    fn read(memory: &[u32], c: u32) -> u32 {
+        cells_in(memory)[c as usize]
     }
 
     // A word holds every value.

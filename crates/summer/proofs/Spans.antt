@@ -33,6 +33,9 @@ module _ (from until : ℕ → ℕ) (asc : Ascending from until) where
   pub until_le : (k l : ℕ) → k ≤ l → until k ≤ until l
   until_le k l h = subst (λ (m : ℕ). until k ≤ until m) (omega arith) (until_climbs k (l - k))
 
+  pub until_near : (k : ℕ) → k ≤ 135 → until k ≤ 4294924095
+  until_near k h = let u = until_le k 135 h in let n = asc.near in omega arith
+
   pub until_from : (k l : ℕ) → k < l → until k < from l
   until_from k l h =
       let e : from l ≡ from (l - 1 + 1) = ap from (omega arith) in

@@ -1,5 +1,10 @@
 -- The offset of a zone. Assumes nothing.
-use Rattle.std.specs.Prelude.{cond, ℤ, pos, negsuc, int_lt}
+use Rattle.std.specs.Prelude.{cond, ℤ, pos, negsuc, ◌≤ℤ◌, int_lt}
+
+-- at most twelve hours either way
+pub record InZone (offset : ℤ) : Type 0 where
+  pub west : negsuc 43199 ≤ℤ offset
+  pub east : offset ≤ℤ pos 43200
 
 -- an offset beyond twelve hours counts as 0
 abbrev pub zone : ℤ → ℤ

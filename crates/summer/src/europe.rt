@@ -1,11 +1,11 @@
-ghost use Rattle.std.specs.Prelude.{◌≡◌, Decides};
+ghost use Rattle.std.specs.Prelude.{◌≡◌, Decides, pos};
 ghost use Rattle.summer.specs.Laws.{EuropeanSummer, europe, europe_from, europe_until};
 ghost use Rattle.summer.specs.Months.{europe_years};
 ghost use Rattle.std.proofs.Common.{rules};
 
 use crate::rule::SummerRule;
 use crate::sundays::last_sunday;
-use crate::yearly::{Yearly, next_end, summer_at};
+use crate::yearly::{Yearly, in_force, next_change};
 
 // From 01:00 UTC on the last Sunday of March until 01:00 UTC on the last Sunday of October.
 #[derive(Clone, Copy)]
@@ -17,6 +17,12 @@ impl Yearly for Europe {
     ghost until = { europe_until };
 
     ghost ascending = { europe_years };
+
+    ghost moment = { λ o s. pos s };
+
+    fn zone(offset: i32) -> i64 {
+        0
+    }
 
     fn first(year: u32) -> i64 {
         i64::from(last_sunday(12 * year as usize + 2)) * 86400 + 3600
@@ -36,10 +42,10 @@ impl SummerRule for Europe {
         ensures answer { result ≡ europe offset second }
         ensures lawful { Decides result (EuropeanSummer second) }
     {
-        summer_at::<Europe>(i64::from(second))
+        in_force::<Europe>(offset, second)
     }
 
     fn next_change(&self, offset: i32, second: u32) -> Option<u32> {
-        next_end::<Europe>(0, second)
+        next_change::<Europe>(offset, second)
     }
 }

@@ -1,6 +1,6 @@
-ghost use Rattle.std.specs.Prelude.{◌≡◌, ℕ, ◌<◌, ◌≤◌, pos, negsuc, ◌+ℤ◌, ◌≤ℤ◌};
+ghost use Rattle.std.specs.Prelude.{◌≡◌, ℕ, ℤ, ◌<◌, ◌≤◌, pos, ◌+ℤ◌, ◌≤ℤ◌};
 ghost use Rattle.keeper.specs.Least.{changes, least_later};
-ghost use Rattle.summer.specs.Zone.{zone};
+ghost use Rattle.summer.specs.Zone.{InZone, zone};
 ghost use Rattle.summer.specs.Years.{Ascending, Current, summer_at};
 
 // A law that gives each year a first and a last moment of summer, in seconds of its own time.
@@ -8,6 +8,13 @@ pub trait Yearly {
     ghost from: { ℕ → ℕ };
 
     ghost until: { ℕ → ℕ };
+
+    // A second at an offset by that time, which is a zone ahead.
+    ghost moment: { ℤ → ℕ → ℤ };
+
+    fn zone(offset: i32) -> i64
+        ensures ahead { (s : ℕ) → moment offset s ≡ pos s +ℤ result }
+        ensures near { InZone result };
 
     // Year 0 is 1970.
     fn first(year: u32) -> i64
@@ -21,7 +28,7 @@ pub trait Yearly {
     ghost ascending: { Ascending from until };
 }
 
-// The first year whose summer has not ended, by halves.
+// The first year whose summer has not ended, by halves: the ends are worked out year by year, so there is no slice for `partition_point`.
 fn year_of<L: Yearly>(t: i64) -> u32
     requires { t ≤ℤ pos 4295010495 }
     ensures { Current L.Yearly.until t result }
@@ -39,7 +46,7 @@ fn year_of<L: Yearly>(t: i64) -> u32
     low
 }
 
-pub(crate) fn summer_at<L: Yearly>(t: i64) -> bool
+fn summer_at<L: Yearly>(t: i64) -> bool
     requires { t ≤ℤ pos 4295010495 }
     ensures { result ≡ summer_at L.Yearly.from L.Yearly.until t }
 {
@@ -57,8 +64,7 @@ fn second_of(t: i64, offset: i64) -> u32
 }
 
 pub(crate) fn next_end<L: Yearly>(offset: i64, second: u32) -> Option<u32>
-    requires from { negsuc 43199 ≤ℤ offset }
-    requires to { offset ≤ℤ pos 43200 }
+    requires { InZone offset }
     ensures { result ≡ least_later (changes (λ s. summer_at L.Yearly.from L.Yearly.until (pos s +ℤ offset))) second 4294967295 }
 {
     let t = i64::from(second) + offset;
@@ -73,10 +79,24 @@ pub(crate) fn next_end<L: Yearly>(offset: i64, second: u32) -> Option<u32>
     Some(second_of(L::last(y), offset))
 }
 
+// Whether it is summer by the law at an offset and a second.
+pub(crate) fn in_force<L: Yearly>(offset: i32, second: u32) -> bool
+    ensures { result ≡ summer_at L.Yearly.from L.Yearly.until (L.Yearly.moment offset second) }
+{
+    summer_at::<L>(i64::from(second) + L::zone(offset))
+}
+
+// The next second at which that changes.
+pub(crate) fn next_change<L: Yearly>(offset: i32, second: u32) -> Option<u32>
+    ensures { result ≡ least_later (changes (λ s. summer_at L.Yearly.from L.Yearly.until (L.Yearly.moment offset s))) second 4294967295 }
+{
+    next_end::<L>(L::zone(offset), second)
+}
+
+// An offset beyond twelve hours counts as 0.
 pub(crate) fn zone_of(offset: i32) -> i64
     ensures value { result ≡ zone offset }
-    ensures from { negsuc 43199 ≤ℤ result }
-    ensures to { result ≤ℤ pos 43200 }
+    ensures near { InZone result }
 {
     if offset < -43200 || offset > 43200 {
         0

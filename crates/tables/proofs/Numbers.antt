@@ -7,15 +7,16 @@ use Rattle.std.proofs.lemmas.List.{append-nil}
 use Rattle.tables.specs.Numbered.{alone, numbered}
 use Rattle.tables.specs.Bits.{bit, bits_in}
 
-module _ {X : Type 0} (at : ℕ → Option X) (n : ℕ) where
-  one_more : numbered at (n + 1) ≡ numbered at n ++ alone (at (n + 1))
+-- the number k after n, where m stands for k
+module _ {X : Type 0} (at : ℕ → Option X) (n k m : ℕ) (next : k ≡ n + 1) (same : m ≡ k) where
+  one_more : numbered at m ≡ numbered at n ++ alone (at k)
   unfolding numbered
-  one_more = let e : n + 1 ≡ suc n = add-one n in rw e
+  one_more = let e : k ≡ suc n = omega arith in rw (same, e)
 
-  pub number_taken : (x : X) (xs : List X) → Some x ≡ at (n + 1) → xs ≡ numbered at n → xs ++ (x ∷ []) ≡ numbered at (n + 1)
+  pub number_taken : (x : X) (xs : List X) → Some x ≡ at k → xs ≡ numbered at n → xs ++ (x ∷ []) ≡ numbered at m
   number_taken x xs h e = rw (e, one_more, ← h)
 
-  pub number_left : (xs : List X) → None ≡ at (n + 1) → xs ≡ numbered at n → xs ≡ numbered at (n + 1)
+  pub number_left : (xs : List X) → None ≡ at k → xs ≡ numbered at n → xs ≡ numbered at m
   number_left xs h e = rw (e, one_more, ← h) (sym (append-nil (numbered at n)))
 
 -- the bits that are set, counted

@@ -1,15 +1,17 @@
 -- What the cells say: zone, summer time, the rows and the events that count. Assumes nothing.
-use Rattle.std.specs.Prelude.{◌≡◌, ℕ, ◌+◌, ◌<◌, Bool, cond, ◌&&◌, List, [], map, ℤ, pos, ◌-ℤ◌, Some, None, Option, ◌==◌, nat_le, nat_lt, slice_index, slice_index_or}
+use Rattle.std.specs.Prelude.{◌≡◌, ℕ, ◌+◌, ◌<◌, Bool, cond, ◌&&◌, List, [], map, ℤ, pos, negsuc, ◌-ℤ◌, ◌≤ℤ◌, Some, None, Option, ◌==◌, nat_le, nat_lt, slice_index_or}
 use Rattle.std.specs.List.{range_with_len}
+pub use Rattle.layout.specs.Layout.{cell_at}
 use Rattle.layout.specs.Layout.{cell_count, row_cell, event_cell, event_counts, start_minute}
 use Rattle.tables.specs.Bits.{bits_in}
 use Rattle.tables.specs.Numbered.{numbered}
 use Rattle.tables.specs.declared.row.Row.{Row}
 use Rattle.tables.specs.declared.event.Event.{Event}
 
--- a cell beyond the list is 0
-abbrev pub cell_at : List ℕ → ℕ → ℕ
-cell_at cells c = slice_index cells c
+-- at most twelve hours either way
+pub record InZone (offset : ℤ) : Type 0 where
+  pub west : negsuc 43199 ≤ℤ offset
+  pub east : offset ≤ℤ pos 43200
 
 -- the zone cell less 43,200, or 0 if it exceeds 86,400
 abbrev pub offset_of : ℕ → ℤ

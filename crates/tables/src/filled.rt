@@ -3,14 +3,14 @@ ghost use Rattle.tables.specs.Filled.{things_in};
 
 use crate::list::Listed;
 
-impl<T: Copy, const N: usize> Listed<T, N> {
-    // No things yet; `blank` stands in the free places.
-    pub(crate) fn new(blank: T) -> Listed<T, N>
+impl<T: Copy + Default, const N: usize> Listed<T, N> {
+    // No things yet.
+    pub(crate) fn new() -> Listed<T, N>
         ensures answer { things_in result ≡ [] }
         ensures empty { result.count ≡ 0 }
     {
         Listed {
-            places: [blank; N],
+            places: [T::default(); N],
             count: 0,
         }
     }

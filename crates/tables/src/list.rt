@@ -5,6 +5,7 @@ use crate::row::Row;
 use std::alloc::AllocError;
 
 // At most N things, in sequence.
+// Not the kit's `arrayvec`, which is not `Copy`: tables are copied as they are.
 #[derive(Drop)]
 pub struct Listed<T, const N: usize> {
     pub(crate) places: [T; N],
@@ -12,6 +13,7 @@ pub struct Listed<T, const N: usize> {
     ghost within: { count ≤ N },
 }
 
+// By hand, since no derive takes a ghost field beside a type parameter.
 impl<T: Copy, const N: usize> Clone for Listed<T, N> {
     ghost is_clone = { λ list copy. copy ≡ list };
 

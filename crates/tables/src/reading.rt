@@ -1,6 +1,6 @@
-ghost use Rattle.std.specs.Prelude.{◌≡◌, ℕ, ◌<◌, ◌≤◌, map, Option, pos, negsuc, ◌≤ℤ◌};
+ghost use Rattle.std.specs.Prelude.{◌≡◌, ℕ, ◌<◌, ◌≤◌, map, Option};
 ghost use Rattle.tables.specs.Bits.{bits_in};
-ghost use Rattle.tables.specs.Cells.{cell_at, counting_event, counting_row, event_at, offset_of, plan_at, plans_at, row_at, row_of, SameCells, timetable};
+ghost use Rattle.tables.specs.Cells.{cell_at, counting_event, counting_row, event_at, offset_of, InZone, plan_at, plans_at, row_at, row_of, SameCells, timetable};
 ghost use Rattle.tables.specs.Filled.{things_in, timetable_in};
 ghost use Rattle.tables.specs.Numbered.{numbered};
 
@@ -10,50 +10,23 @@ use crate::list::{DayPlan, Listed, Rows};
 use crate::row::Row;
 use crate::tables::Tables;
 use keeper::Counts;
-use layout::{event_cell, event_counts, row_cell};
+use layout::{cell_at, event_cell, event_counts, row_cell};
 use std::array;
 
-// What stands in the free places of a list.
-const NO_ROW: Row = Row {
-    number: 0,
-    months: 0,
-    weekdays: 0,
-    dates: 0,
-    plan: 0,
-    counts: Counts {
-        months: 0,
-        dates: 0,
-        weekdays: 0,
-    },
-};
-
-const NO_EVENT: Event = Event {
-    number: 0,
-    minute: 0,
-    tariff: 0,
-};
-
 // The things with the numbers 1 to N that are there, in ascending number.
-fn numbered_in<T: Copy, const N: usize, F: Fn(u8) -> Option<T>>(blank: T, at: F) -> Listed<T, N>
+fn numbered_in<T: Copy + Default, const N: usize, F: Fn(u8) -> Option<T>>(at: F) -> Listed<T, N>
     requires few { N < 256 }
     requires callable { F.IsAlwaysCallable at }
     ensures { (there : ℕ → Option T) → ((k : ℕ) (thing : Option T) → F.post at k thing → thing ≡ there k) → things_in result ≡ numbered there N }
 {
-    let mut things = Listed::new(blank);
+    let mut things = Listed::new();
     // a loop, since over `filter_map(at)` the goal `push-requires` stayed open
-    for before in 0..N as u8 {
-        if let Some(thing) = at(before + 1) {
+    for number in 1..=N as u8 {
+        if let Some(thing) = at(number) {
             things.push(thing);
         }
     }
     things
-}
-
-// A cell beyond the list is 0.
-fn cell_at(cells: &[u32], c: u32) -> u32
-    ensures { result ≡ cell_at cells.now c }
-{
-    cells.get(c as usize).copied().unwrap_or(0)
 }
 
 fn counting_row(number: u8, months: u32, weekdays: u32, dates: u32, plan: u32) -> Option<Row>
@@ -96,7 +69,7 @@ fn row_at(cells: &[u32], number: u8) -> Option<Row>
 fn rows_in(cells: &[u32]) -> Rows
     ensures { things_in result ≡ numbered (row_at (cell_at cells.now)) 32 }
 {
-    numbered_in(NO_ROW, |number| row_at(cells, number))
+    numbered_in(|number| row_at(cells, number))
 }
 
 fn counting_event(number: u8, hour: u32, minute: u32, tariff: u32) -> Option<Event>
@@ -129,7 +102,7 @@ fn event_at(cells: &[u32], plan: u8, number: u8) -> Option<Event>
 fn events_in(cells: &[u32], plan: u8) -> DayPlan
     ensures { things_in result ≡ numbered (event_at (cell_at cells.now) plan) 12 }
 {
-    numbered_in(NO_EVENT, |number| event_at(cells, plan, number))
+    numbered_in(|number| event_at(cells, plan, number))
 }
 
 // The counting events of a plan; plan 0 has none.
@@ -137,7 +110,7 @@ fn plan_in(cells: &[u32], plan: u8) -> DayPlan
     ensures { things_in result ≡ plan_at (cell_at cells.now) plan }
 {
     if plan == 0 {
-        DayPlan::new(NO_EVENT)
+        DayPlan::new()
     } else {
         events_in(cells, plan)
     }
@@ -146,8 +119,7 @@ fn plan_in(cells: &[u32], plan: u8) -> DayPlan
 // The zone cell less 43,200, or 0 if it exceeds 86,400.
 fn offset_of(zone: u32) -> i32
     ensures answer { result ≡ offset_of zone }
-    ensures west { negsuc 43199 ≤ℤ result }
-    ensures east { result ≤ℤ pos 43200 }
+    ensures zone { InZone result }
 {
     if zone <= 86400 {
         zone as i32 - 43200

@@ -1,7 +1,7 @@
 use keeper::Counts;
 
 // A row: its number, its masks as the cells have them, its plan, and how many months, dates and weekdays it has.
-#[derive(Clone, Copy, Drop)]
+#[derive(Clone, Copy, Drop, Default)]
 pub struct Row {
     pub number: u8,
     pub months: u32,

@@ -1,25 +1,27 @@
-ghost use Rattle.std.specs.Prelude.{◌≡◌, ◌-◌, pos, if◌then◌else◌, Some, None};
+ghost use Rattle.std.specs.Prelude.{◌≡◌, ◌-◌, pos, Some};
 ghost use Rattle.calendar.specs.Dates.{IsDate};
-ghost use Rattle.chip.specs.Chip.{chip_kind, chip_meaning, second_at, time_at};
+ghost use Rattle.chip.specs.Chip.{Reckoned, chip_meaning, second_at};
 ghost use Rattle.chip.specs.Moment.{Within, chip_first, chip_last, days_to};
-ghost use Rattle.clock.specs.Setting.{accepts};
 ghost use Rattle.clock.specs.Time.{passed};
 
 use crate::moment::{FIRST, LAST, Moment};
 use calendar::{date_of, day_of};
+use refusal::Refusal;
 
-impl Moment {
-    // The date and time at a second of 2000 to 2099.
-    pub fn at(second: u32) -> Option<Moment>
-        ensures answer { time_at result ≡ (if accepts chip_kind second then Some second else None) }
-    {
+// The date and time at a second of 2000 to 2099.
+impl TryFrom<u32> for Moment {
+    type Error = Refusal;
+
+    ghost try_from_gives = { Reckoned };
+
+    fn try_from(second: u32) -> Result<Moment, Refusal> {
         if second < FIRST || second > LAST {
-            return None;
+            return Err(Refusal::TimeNotTaken);
         }
         let Ok((year, month, day)) = date_of((second / 86_400) as i32) else {
-            return None;
+            unreachable()
         };
-        Some(Moment {
+        Ok(Moment {
             year,
             month,
             day,
@@ -28,7 +30,9 @@ impl Moment {
             second: (second % 60) as u8,
         })
     }
+}
 
+impl Moment {
     // The days from 1970 to this date.
     fn days(&self) -> u32
         ensures answer { result ≡ days_to self.now.year self.now.month self.now.day }
@@ -55,6 +59,6 @@ impl Moment {
     pub fn later(&self, n: u32) -> Option<Moment>
         ensures answer { chip_meaning result ≡ passed (Some (second_at self.now), chip_last - second_at self.now) n }
     {
-        Moment::at(self.second().checked_add(n)?)
+        Moment::try_from(self.second().checked_add(n)?).ok()
     }
 }

@@ -8,8 +8,15 @@ impl InstantClock {
     pub fn new(second: u32) -> InstantClock
         ensures answer { instant.meaning result ≡ (Some second, 0) }
     {
-        InstantClock {
-            second: Some(second),
-        }
+        InstantClock::from(Some(second))
+    }
+}
+
+// A clock that shows the second, where there is one.
+impl From<Option<u32>> for InstantClock {
+    ghost from_gives = { λ second clock. instant.meaning clock ≡ (second, 0) };
+
+    fn from(second: Option<u32>) -> InstantClock {
+        InstantClock { second }
     }
 }

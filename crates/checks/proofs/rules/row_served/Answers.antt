@@ -5,5 +5,5 @@ use Rattle.checks.proofs.rules.row_served.Goals as goal
 
 pub returns-else-plan-from : goal.returns-else-plan-from
 returns-else-plan-from c =
-    let none = none_past c.args.t.now c.read-plan.result (omega arith) (omega arith) in
-    grind (arith, nat_tests, none, c.read-plan.ensures, c.row_cell.ensures)
+    let none = none_past c.args.t.now c.cell_at-plan.result (omega arith) (omega arith) in
+    grind (arith, nat_tests, none, c.cell_at-plan.ensures, c.row_cell.ensures)

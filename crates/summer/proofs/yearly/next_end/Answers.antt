@@ -1,6 +1,6 @@
 use Rattle.std.proofs.Common.{◌≡◌, ◌<◌, ◌≤◌, ℕ, ℤ, pos, ◌+ℤ◌, ◌≤ℤ◌, sym, arith}
 use borrow.Author.Differences.{ints}
-use Rattle.summer.proofs.Spans.{moved, until_le, none_left, start_at, end_at}
+use Rattle.summer.proofs.Spans.{moved, until_near, none_left, start_at, end_at}
 use Rattle.summer.proofs.yearly.next_end.Goals as goal
 
 small : (z : ℤ) → z ≤ℤ pos 43200 → (pos 4294967295 +ℤ z) ≤ℤ pos 4295010496
@@ -17,10 +17,9 @@ returns-then-y-eq136 g c =
 
 pub second_of-requires : goal.second_of-requires
 second_of-requires g c =
-    let a = g.met.L.Yearly.ascending in
+    let o = g.met.L.Yearly.ascending.opens c.year_of-y.result in
     let f = c.year_of-y.ensures.few in
-    let n = a.near in let o = a.opens c.year_of-y.result in
-    let u = until_le g.L.Yearly.from g.L.Yearly.until a c.year_of-y.result 135 (omega arith) in
+    let u = until_near g.L.Yearly.from g.L.Yearly.until g.met.L.Yearly.ascending c.year_of-y.result (omega arith) in
     record { from = omega (arith, ints); to = omega (arith, ints) }
 
 pub returns-then-t-first : goal.returns-then-t-first
@@ -31,10 +30,9 @@ returns-then-t-first g c =
 
 pub second_of-requires-2 : goal.second_of-requires-2
 second_of-requires-2 g c =
-    let a = g.met.L.Yearly.ascending in
+    let h = c.year_of-y.ensures.here in
     let f = c.year_of-y.ensures.few in
-    let n = a.near in let h = c.year_of-y.ensures.here in
-    let u = until_le g.L.Yearly.from g.L.Yearly.until a c.year_of-y.result 135 (omega arith) in
+    let u = until_near g.L.Yearly.from g.L.Yearly.until g.met.L.Yearly.ascending c.year_of-y.result (omega arith) in
     record { from = omega (arith, ints); to = omega (arith, ints) }
 
 pub returns : goal.returns
@@ -45,4 +43,4 @@ returns g c =
     let end : pos c.second_of-2.result +ℤ c.args.offset ≡ pos (g.L.Yearly.until y) = omega (arith, ints) in
     let cur = moved t c.year_of-y.ensures (omega (arith, ints)) in
     sym (end_at g.L.Yearly.from g.L.Yearly.until g.met.L.Yearly.ascending c.args.offset c.args.second y cur
-    c.second_of-2.result 4294967295 (small c.args.offset c.requires.to) warm end (in_limit c.second_of-2.result c.second_of-2.type_inv))
+    c.second_of-2.result 4294967295 (small c.args.offset c.requires.east) warm end (in_limit c.second_of-2.result c.second_of-2.type_inv))

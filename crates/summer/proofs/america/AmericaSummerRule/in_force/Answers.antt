@@ -5,5 +5,5 @@ use Rattle.summer.proofs.america.AmericaSummerRule.in_force.Goals as goal
 
 pub returns : goal.returns
 returns c =
-    let e : c.summer_at.result ≡ america c.args.offset c.args.second = search rules in
-    record { answer = e; lawful = american c.args.offset c.args.second c.summer_at.result e }
+    let e : c.in_force.result ≡ america c.args.offset c.args.second = search rules in
+    record { answer = e; lawful = american c.args.offset c.args.second c.in_force.result e }
