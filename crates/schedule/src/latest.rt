@@ -1,7 +1,7 @@
 ghost use Rattle.std.specs.Prelude.{◌≡◌};
 ghost use Rattle.schedule.specs.EventInForce.{latest_of, started_by};
 
-use keeper::best_of;
+use crate::choice::best_of;
 use std::cmp::Reverse;
 use tables::Event;
 

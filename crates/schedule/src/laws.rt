@@ -14,10 +14,20 @@ pub fn look_twice<R: SummerRule>(tables: &Tables, rule: &R, second: u32, later: 
     ensures then { result.1 ≡ look_of (timetable_in tables.now) (R.SummerRule.in_force rule.now) later }
     ensures steady { second ≤ later → later ≤ result.0.last_second → result.1 ≡ onward (later - second) result.0 }
 {
+    looks_at(tables, rule, second, later)
+}
+
+// The same, with its proof: so an edit of the public call is refused for what it says, and not for its proof.
+fn looks_at<R: SummerRule>(tables: &Tables, rule: &R, second: u32, later: u32) -> (Look, Look)
+    ensures first { result.0 ≡ look_of (timetable_in tables.now) (R.SummerRule.in_force rule.now) second }
+    ensures then { result.1 ≡ look_of (timetable_in tables.now) (R.SummerRule.in_force rule.now) later }
+    ensures steady { second ≤ later → later ≤ result.0.last_second → result.1 ≡ onward (later - second) result.0 }
+{
     (look(tables, rule, second), look(tables, rule, later))
 }
 
 // The looks of the same cells under two rules: where these mean the same, the looks are equal.
+#[tactic(auto, using(crate::proofs::Both::of_cells, crate::proofs::Both::seen_alike))]
 pub fn look_by_both<R: SummerRule, Q: SummerRule>(
     cells: &[u32],
     rule: &R,

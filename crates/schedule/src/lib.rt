@@ -3,6 +3,7 @@
 
 mod answer;
 mod boundary;
+mod choice;
 mod day;
 mod latest;
 mod laws;

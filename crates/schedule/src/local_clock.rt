@@ -1,8 +1,7 @@
 ghost use Rattle.localtime.specs.Local.{day_of};
 ghost use Rattle.schedule.specs.Boundaries.{local_at};
 ghost use Rattle.schedule.specs.Candidates.{next_change};
-ghost use Rattle.schedule.specs.Clocks.{IsLocalTime, setting_by};
-ghost use Rattle.schedule.specs.Days.{Reaches};
+ghost use Rattle.schedule.specs.Clocks.{IsLocalDay, IsLocalTime, setting_by};
 ghost use Rattle.schedule.specs.Moments.{IsMoment};
 ghost use Rattle.std.specs.Prelude.{◌≡◌, ◌&&◌};
 
@@ -21,7 +20,7 @@ pub(crate) struct LocalClock<'a, R> {
 fn day_at(local_time: i64) -> i32
     requires { IsLocalTime local_time }
     ensures answer { result ≡ day_of local_time }
-    ensures week { Reaches result 7 }
+    ensures near { IsLocalDay result }
 {
     day_number(local_time) as i32
 }

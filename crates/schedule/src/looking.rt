@@ -51,10 +51,7 @@ pub fn look<R: SummerRule>(tables: &Tables, rule: &R, second: u32) -> Look
     ensures answer { result ≡ look_of (timetable_in tables.now) (R.SummerRule.in_force rule.now) second }
 {
     let clock = LocalClock { tables, rule };
-    look_at(
-        tables,
-        second,
-        clock.moment(second),
-        clock.next_change(second),
-    )
+    let moment = clock.moment(second);
+    let change = clock.next_change(second);
+    look_at(tables, second, moment, change)
 }

@@ -4,8 +4,8 @@ ghost use Rattle.schedule.specs.RowInForce.{best_row, fits, row_number, row_on};
 ghost use Rattle.std.specs.Prelude.{◌≡◌};
 ghost use Rattle.tables.specs.Filled.{timetable_in};
 
+use crate::choice::best_of;
 use crate::day::Day;
-use keeper::best_of;
 use tables::{Row, Tables, has_bit};
 
 fn fits_day(row: &Row, day: Day) -> bool

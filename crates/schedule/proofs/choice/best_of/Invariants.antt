@@ -1,7 +1,7 @@
 use Rattle.std.proofs.Common.{Bool}
-use Rattle.keeper.specs.Choices.{Returns}
+use Rattle.schedule.specs.Choices.{Returns}
 use Rattle.keeper.proofs.Offering.{Kept}
-use Rattle.keeper.proofs.choice.best_of.Given as goal
+use Rattle.schedule.proofs.choice.best_of.Given as goal
 
 abbrev pub invariant-loop-thing : goal.invariant-loop-thing
 invariant-loop-thing g l =

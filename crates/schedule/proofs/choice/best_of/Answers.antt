@@ -1,7 +1,7 @@
 use Rattle.std.proofs.Common.{sym, ap, ◌∙◌}
 use Rattle.keeper.proofs.Offering.{kept_taken, kept_left, kept_all}
-use Rattle.keeper.proofs.choice.best_of.Goals as goal
-use Rattle.keeper.proofs.choice.best_of.Goals.{then-passes, else-passes}
+use Rattle.schedule.proofs.choice.best_of.Goals as goal
+use Rattle.schedule.proofs.choice.best_of.Goals.{then-passes, else-passes}
 
 pub loop-thing-preserved : goal.loop-thing-preserved
 loop-thing-preserved g c = λ test key tests ranks.

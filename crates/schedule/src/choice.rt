@@ -1,15 +1,15 @@
 ghost use Rattle.keeper.specs.Best.{first_best};
-ghost use Rattle.keeper.specs.Choices.{Returns};
+ghost use Rattle.schedule.specs.Choices.{Returns};
 ghost use Rattle.std.specs.Ordering.{is_lt};
 ghost use Rattle.std.specs.Prelude.{◌≡◌, Bool, filter};
 
-use crate::keeper::Keeper;
+use keeper::{Keeper, Rank};
 
 // Of the things that pass a test the one that ranks least; of equals the first.
-pub fn best_of<X, K, P, R>(things: &[X], passes: P, rank: R) -> Option<X>
+pub(crate) fn best_of<X, K, P, R>(things: &[X], passes: P, rank: R) -> Option<X>
 where
     X: Copy + Drop,
-    K: Ord + Drop,
+    K: Rank + Drop,
     P: Fn(&X) -> bool,
     R: Fn(&X) -> K,
     requires passes { P.IsAlwaysCallable passes }
