@@ -1,13 +1,13 @@
-use Rattle.std.proofs.Common.{◌∙◌, rules, tests, arith}
-use Rattle.std.proofs.lemmas.Iterator.Consumers.{count_from_yields_List, YieldsList-from_filter, YieldsList-at}
-use Rattle.layout.proofs.Ranges.{inclusive}
-use Rattle.tables.specs.Bits.{bit}
-use Rattle.tables.proofs.Numbers.{bits_counted}
+use Rattle.std.proofs.Common.{◌*◌, ◌/◌, ◌%◌, ◌^◌, ◌<◌, ◌≤◌, ◌≡◌, count_ones, ℕ, sym, ap, ◌∙◌, arith, pow_mono}
+use Rattle.std.proofs.Math.Nat.{mod-eq_of_lt}
+use Rattle.tables.proofs.Ones.{counted}
 use Rattle.tables.proofs.bits.count_bits.Goals as goal
 
 pub returns : goal.returns
 returns c =
     let n = c.args.last in
-    let all = inclusive 1 n n c.new.ensures.start c.new.ensures.end c.new.ensures.exhausted (omega arith) in
-    count_from_yields_List c.filter.result c.count.result c.count.ensures.ran (YieldsList-from_filter _ (bit c.args.mask) (YieldsList-at c.filter.ensures.source all) c.filter.ensures.closure (λ x b q k. search (rules, tests)))
-    ∙ bits_counted c.args.mask n
+    let least : n ≤ 31 = omega arith in
+    let p : 2 ^ n ≤ 2 ^ 31 = pow_mono least in
+    let e : 1 * 2 ^ n ≡ 2 ^ n = omega arith in
+    ap (λ (k : ℕ). count_ones (c.args.mask / 2 % (k % 4294967296))) e
+    ∙ ap (λ (k : ℕ). count_ones (c.args.mask / 2 % k)) (mod-eq_of_lt (omega arith)) ∙ sym (counted c.args.mask n)

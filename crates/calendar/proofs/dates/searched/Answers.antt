@@ -2,7 +2,7 @@ use Rattle.std.proofs.Common.{rules}
 use lib.Signed.{le_z}
 use Rattle.std.proofs.lemmas.List.Sorted.{IsPartitionPoint-from_clause}
 use Rattle.calendar.proofs.Searched.{parted, some, not_all, begun, open_after}
-use Rattle.calendar.proofs.dates.place_of.Goals as goal
+use Rattle.calendar.proofs.dates.searched.Goals as goal
 
 pub overflow_sub-result : goal.overflow_sub-result
 overflow_sub-result c =
