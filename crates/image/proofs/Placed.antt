@@ -1,8 +1,10 @@
 -- The image at the layout's widths: each cell at the layout's place.
-use Rattle.std.proofs.Common.{◌≡◌, ℕ, zero, suc, ◌+◌, ◌^◌, ◌<◌, ◌≤◌, List, [], ◌++◌, length, get_or, take, drop, set, sym, refl, ap, ◌∙◌, subst, inl, inr, ⊎_elim, zero-add, arith}
+use Rattle.std.proofs.Common.{◌≡◌, ℕ, zero, suc, ◌+◌, ◌^◌, ◌<◌, ◌≤◌, List, [], ◌++◌, length, get_or, slice_get, take, drop, set, None, sym, refl, ap, ◌∙◌, subst, inl, inr, ⊎_elim, zero-add, arith}
 use Rattle.layout.proofs.Fields.{width_least}
 use Rattle.layout.specs.Layout.{cell_count, place_of, width}
 use Rattle.std.proofs.lemmas.List.{append-nil, length-drop, length-take-le, take-append-drop, take_more}
+use Rattle.std.proofs.lemmas.Bool.{cases_lt}
+use Rattle.std.proofs.lemmas.Option.{slice_get_past}
 use Rattle.std.specs.Int.Digits.{number_from_digits}
 use Rattle.image.proofs.Digits.{length-bytes_of, number-bytes_of}
 use Rattle.image.proofs.Spans.{back as back_at, encode_push, fits, inside, keeps, read, span_more, span_from, whole as whole-at, write}
@@ -27,6 +29,9 @@ module _ (bs : List ℕ) (c : ℕ) where
 
   pub bound : c < length (image_cells bs) → (c < cell_count) × (place_of c + width c ≤ length bs)
   bound h = let k = place_span c in let a = next c in let f = fits width c cell_count 0 bs h in (f.0, omega arith)
+
+  pub absent : (c < cell_count → place_of c + width c ≤ length bs → ⊥) → slice_get (image_cells bs) c ≡ None
+  absent h = slice_get_past (image_cells bs) c (⊎_elim (λ (l : c < length (image_cells bs)). let b = bound l in absurd (h b.0 b.1)) (λ l. l) (cases_lt c (length (image_cells bs))))
 
   module _ (h : c < length (image_cells bs)) (at n : ℕ) (a : at ≡ place_of c) (e : n ≡ width c) where
     front : List ℕ

@@ -1,4 +1,4 @@
-ghost use Rattle.std.specs.Prelude.{◌≡◌, ◌^◌, ◌<◌, ◌++◌, length, slice_index};
+ghost use Rattle.std.specs.Prelude.{◌≡◌, ◌^◌, ◌<◌, ◌++◌, length, slice_set};
 ghost use Rattle.layout.specs.Layout.{width as cellWidth};
 ghost use Rattle.image.specs.Image.{Bytes, image_cells, image_of, image_rest};
 ghost use Rattle.image.specs.Laws.{image_laws};
@@ -43,21 +43,39 @@ impl Format for Image {
         c < CELLS && place(c) + width(c) <= bytes.len()
     }
 
-    #[tactic(auto, using(crate::proofs::Placed::bound))]
-    fn read(bytes: &[u8], c: u32) -> u32 {
+    // The cell's place is worked out once, for the test and for the bytes.
+    fn read(bytes: &[u8], c: u32) -> Option<u32> {
+        if c >= CELLS {
+            return None;
+        }
         let start = place(c);
         let end = start + width(c);
-        read_number(&bytes[start..end])
+        if end > bytes.len() {
+            return None;
+        }
+        Some(read_number(&bytes[start..end]))
     }
 
     fn holds(c: u32, v: u32) -> bool {
         u64::from(v) < 256u64.pow(width(c) as u32)
     }
 
-    #[tactic(auto, using(crate::proofs::Placed::bound))]
     fn write(bytes: &mut [u8], c: u32, v: u32) {
-        let at = place(c);
-        let n = width(c);
-        bytes[at..at + n].copy_from_slice(&v.to_be_bytes()[4 - n..]);
+        if Self::has(bytes, c) && Self::holds(c, v) {
+            write_cell(bytes, c, v);
+        }
     }
+}
+
+// Writes the bytes of a cell.
+#[tactic(auto, using(crate::proofs::Placed::bound))]
+fn write_cell(bytes: &mut [u8], c: u32, v: u32)
+    requires there { c < length (image_cells bytes.old) }
+    requires fits { v < 256 ^ cellWidth c }
+    ensures after { image_cells bytes.new ≡ slice_set (image_cells bytes.old) c v }
+    ensures rest { image_rest bytes.new ≡ image_rest bytes.old }
+{
+    let at = place(c);
+    let n = width(c);
+    bytes[at..at + n].copy_from_slice(&v.to_be_bytes()[4 - n..]);
 }

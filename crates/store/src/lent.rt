@@ -62,10 +62,7 @@ impl<'a, F: Format> Store for LentStore<'a, F> {
     }
 
     fn get(&self, c: u32) -> Result<u32, Refusal> {
-        if !self.has(c) {
-            return Err(Refusal::NoCell);
-        }
-        Ok(F::read(self.memory, c))
+        F::read(self.memory, c).ok_or(Refusal::NoCell)
     }
 
     fn put(&mut self, c: u32, v: u32) -> Result<(), Refusal> {

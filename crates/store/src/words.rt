@@ -38,8 +38,8 @@ impl Format for Words {
         (c as usize) < cells_in(memory).len()
     }
 
-    fn read(memory: &[u32], c: u32) -> u32 {
-        cells_in(memory)[c as usize]
+    fn read(memory: &[u32], c: u32) -> Option<u32> {
+        cells_in(memory).get(c as usize).copied()
     }
 
     // A word holds every value.
@@ -49,7 +49,9 @@ impl Format for Words {
 
     #[tactic(auto, using(crate::proofs::Fronts::fronts))]
     fn write(memory: &mut [u32], c: u32, v: u32) {
-        memory[c as usize] = v;
+        if Self::has(memory, c) {
+            memory[c as usize] = v;
+        }
     }
 }
 

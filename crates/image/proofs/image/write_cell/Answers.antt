@@ -2,7 +2,7 @@ use Rattle.std.proofs.Common.{◌≡◌, ℕ, ◌+◌, ◌-◌, sym, ap, ◌∙�
 use borrow.Rule.Slice.PartMut.{put_mid}
 use Rattle.image.proofs.Four.{last_bytes}
 use Rattle.image.proofs.Placed.{keeps_at, write_at}
-use Rattle.image.proofs.image.ImageFormat.write.Goals as goal
+use Rattle.image.proofs.image.write_cell.Goals as goal
 use Rattle.image.specs.Image.{bytes_of, image_cells, image_rest}
 
 pub returns : goal.returns
