@@ -1,13 +1,14 @@
 use crate::step::Step;
-use hex::FromHexError;
+use hex::decode_to_slice;
 use history::Call;
 use std::alloc::{AllocError, AllocFailed, Global};
 use std::fmt;
 
-// The calls of a life, in their order.
+// The calls of a life, in their order, and the bytes of its work orders.
 #[derive(Drop)]
 pub struct Life {
     steps: Vec<Step>,
+    orders: Vec<u8>,
 }
 
 // Why a text is no life: a line that is no call, counted from 1, or want of memory.
@@ -43,23 +44,25 @@ impl Life {
     // Reads all lines before anything is called; blank ones are passed over.
     pub fn read(heap: Global, text: &str) -> Result<Life, NotALife> {
         let mut steps = Vec::new(heap);
+        let mut orders = Vec::new(heap);
         for (before, line) in text.lines().enumerate() {
             if is_blank(line) {
                 continue;
             }
-            let Some(step) = step_of(heap, line)? else {
+            let Some(step) = step_of(line, &mut orders)? else {
                 return Err(NotALife::Line(before.saturating_add(1)));
             };
             steps.push(step)?;
         }
-        Ok(Life { steps })
+        Ok(Life { steps, orders })
     }
 
     // The calls, with their orders.
     pub fn calls(&self, heap: Global) -> Result<Vec<Call<'_>>, AllocError> {
+        let orders = self.orders.as_slice();
         let mut calls = Vec::new(heap);
         for step in self.steps.as_slice() {
-            calls.push(step.call())?;
+            calls.push(step.call(orders))?;
         }
         Ok(calls)
     }
@@ -69,8 +72,8 @@ pub(crate) fn is_blank(line: &str) -> bool {
     line.split_whitespace().next().is_none()
 }
 
-// The call that a line has, or none. A run without bytes is the empty order.
-fn step_of(heap: Global, line: &str) -> Result<Option<Step>, NotALife> {
+// The call that a line has, or none. A run's bytes go behind the others; without bytes it is the empty order.
+fn step_of(line: &str, orders: &mut Vec<u8>) -> Result<Option<Step>, NotALife> {
     let mut words = line.split_whitespace();
     let name = words.next().unwrap_or("");
     let first = words.next();
@@ -79,7 +82,7 @@ fn step_of(heap: Global, line: &str) -> Result<Option<Step>, NotALife> {
         return Ok(None);
     }
     match (name, first, second) {
-        ("run", digits, None) => run_step(heap, digits.unwrap_or("")),
+        ("run", digits, None) => run_step(digits.unwrap_or(""), orders),
         _ => Ok(plain_call(name, first, second).map(Step::Plain)),
     }
 }
@@ -101,11 +104,13 @@ fn plain_call(name: &str, first: Option<&str>, second: Option<&str>) -> Option<C
     Some(call)
 }
 
-// Two hexadecimal digits to a byte.
-fn run_step(heap: Global, digits: &str) -> Result<Option<Step>, NotALife> {
-    match hex::decode(heap, digits) {
-        Ok(order) => Ok(Some(Step::Run(order))),
-        Err(FromHexError::OutOfMemory) => Err(NotALife::NoMemory),
-        Err(_) => Ok(None),
+// Two hexadecimal digits to a byte. What is no order asks for no memory.
+fn run_step(digits: &str, orders: &mut Vec<u8>) -> Result<Option<Step>, NotALife> {
+    if digits.len() % 2 != 0 || !digits.bytes().all(|digit| digit.is_ascii_hexdigit()) {
+        return Ok(None);
     }
+    let from = orders.len();
+    orders.resize(from.saturating_add(digits.len() / 2), 0)?;
+    let decoded = decode_to_slice(digits, &mut orders.as_mut_slice()[from..]);
+    Ok(decoded.ok().map(|_| Step::Run(from, orders.len())))
 }

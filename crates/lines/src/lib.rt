@@ -1,9 +1,11 @@
 // An image and seconds in, a line for each look out.
 #![tactic(auto)]
 
+mod line;
 mod looks;
 
 use layout::IMAGE_BYTES;
+pub use line::write_look;
 use looks::{look_at, tables_in};
 use std::io;
 use std::io::Write;
@@ -17,7 +19,7 @@ pub fn write_lines<W: Write>(input: &mut [u8], out: &mut W) -> io::Result<()> {
     let (seconds, _) = seconds.as_chunks::<4>();
     for bytes in seconds {
         let look = look_at(&tables, u32::from_be_bytes(*bytes));
-        writeln!(out, "{look}")?;
+        write_look(&look, out)?;
     }
     Ok(())
 }
