@@ -83,25 +83,25 @@ fn step_of(line: &str, orders: &mut Vec<u8>) -> Result<Option<Step>, NotALife> {
     }
     match (name, first, second) {
         ("run", digits, None) => run_step(digits.unwrap_or(""), orders),
-        _ => Ok(plain_call(name, first, second).map(Step::Plain)),
+        _ => Ok(plain_step(name, first, second)),
     }
 }
 
-fn plain_call(name: &str, first: Option<&str>, second: Option<&str>) -> Option<Call<'static>> {
-    let call = match (name, first, second) {
-        ("look", None, None) => Call::Look,
-        ("set", Some(to), None) => Call::Set(to.parse().ok()?),
-        ("pass", Some(seconds), None) => Call::Pass(seconds.parse().ok()?),
-        ("get", Some(cell), None) => Call::Get(cell.parse().ok()?),
-        ("open", None, None) => Call::Open,
-        ("put", Some(cell), Some(value)) => Call::Put(cell.parse().ok()?, value.parse().ok()?),
-        ("check", None, None) => Call::Check,
-        ("commit", None, None) => Call::Commit,
-        ("discard", None, None) => Call::Discard,
-        ("clear", None, None) => Call::Clear,
+fn plain_step(name: &str, first: Option<&str>, second: Option<&str>) -> Option<Step> {
+    let step = match (name, first, second) {
+        ("look", None, None) => Step::Look,
+        ("set", Some(to), None) => Step::Set(to.parse().ok()?),
+        ("pass", Some(seconds), None) => Step::Pass(seconds.parse().ok()?),
+        ("get", Some(cell), None) => Step::Get(cell.parse().ok()?),
+        ("open", None, None) => Step::Open,
+        ("put", Some(cell), Some(value)) => Step::Put(cell.parse().ok()?, value.parse().ok()?),
+        ("check", None, None) => Step::Check,
+        ("commit", None, None) => Step::Commit,
+        ("discard", None, None) => Step::Discard,
+        ("clear", None, None) => Step::Clear,
         _ => return None,
     };
-    Some(call)
+    Some(step)
 }
 
 // Two hexadecimal digits to a byte. What is no order asks for no memory.

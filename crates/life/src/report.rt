@@ -1,5 +1,6 @@
 use crate::reading::is_blank;
 use history::Answer;
+use lines::write_look;
 use refusal::Refusal;
 use schedule::Look;
 use std::io;
@@ -13,9 +14,18 @@ pub(crate) fn write_answers<W: Write>(
 ) -> io::Result<()> {
     let called = text.lines().filter(|line| !is_blank(line));
     for (line, answer) in called.zip(answers) {
-        writeln!(out, "{line}: {answer}")?;
+        write!(out, "{line}: ")?;
+        write_answer(*answer, out)?;
     }
     Ok(())
+}
+
+// A look is given out whole.
+fn write_answer<W: Write>(answer: Answer, out: &mut W) -> io::Result<()> {
+    match answer {
+        Answer::Seen(look) => write_look(&look, out),
+        _ => writeln!(out, "{answer}"),
+    }
 }
 
 // Both looks, and whether they agree.
@@ -24,10 +34,10 @@ pub(crate) fn write_looks<W: Write>(
     reader: Result<Look, Refusal>,
     out: &mut W,
 ) -> io::Result<()> {
-    let shown: Answer = meter.into();
-    let read: Answer = reader.into();
-    writeln!(out, "meter: {shown}")?;
-    writeln!(out, "reader: {read}")?;
+    write!(out, "meter: ")?;
+    write_answer(meter.into(), out)?;
+    write!(out, "reader: ")?;
+    write_answer(reader.into(), out)?;
     match (meter, reader) {
         (Ok(shown), Ok(read)) => write_difference(shown, read, out),
         (Err(why), Err(too)) if why == too => writeln!(out, "agree"),
