@@ -15,7 +15,7 @@ pub fn decode(heap: Global, image: &[u8]) -> Result<Vec<u32>, AllocError>
     let mut cells = Vec::new(heap);
     // a loop, since over `map_while(..).collect(heap)` the goal `returns-clause-answer` stayed open
     for c in 0..Image::count(image) {
-        cells.push(Image::read(image, c).unwrap_or(0))?;
+        cells.push(Image::get(image, c).unwrap_or(0))?;
     }
     Ok(cells)
 }

@@ -43,8 +43,20 @@ impl Format for Image {
         c < CELLS && place(c) + width(c) <= bytes.len()
     }
 
+    fn read(bytes: &[u8], c: u32) -> u32 {
+        Self::get(bytes, c).unwrap()
+    }
+
+    fn holds(c: u32, v: u32) -> bool {
+        u64::from(v) < 256u64.pow(width(c) as u32)
+    }
+
+    fn write(bytes: &mut [u8], c: u32, v: u32) {
+        Self::put(bytes, c, v);
+    }
+
     // The cell's place is worked out once, for the test and for the bytes.
-    fn read(bytes: &[u8], c: u32) -> Option<u32> {
+    fn get(bytes: &[u8], c: u32) -> Option<u32> {
         if c >= CELLS {
             return None;
         }
@@ -56,11 +68,7 @@ impl Format for Image {
         Some(read_number(&bytes[start..end]))
     }
 
-    fn holds(c: u32, v: u32) -> bool {
-        u64::from(v) < 256u64.pow(width(c) as u32)
-    }
-
-    fn write(bytes: &mut [u8], c: u32, v: u32) {
+    fn put(bytes: &mut [u8], c: u32, v: u32) {
         if Self::has(bytes, c) && Self::holds(c, v) {
             write_cell(bytes, c, v);
         }

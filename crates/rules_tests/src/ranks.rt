@@ -1,4 +1,4 @@
-use keeper::{Counts, Keeper};
+use keeper::{Counts, Keeper, best_of};
 use std::cmp::Reverse;
 
 fn counts(months: u8, dates: u8, weekdays: u8) -> Counts {
@@ -38,4 +38,11 @@ fn later_minute_and_earlier_second(rt: HostRuntime) {
 fn nothing_offered(rt: HostRuntime) {
     let none: Keeper<u32, u8> = Keeper::new();
     assert_eq!(rt; none.best_place(), None);
+}
+
+#[test]
+fn of_the_even_the_first_with_fewest_tens(rt: HostRuntime) {
+    let numbers = [7u32, 12, 3, 10, 2, 8];
+    assert_eq!(rt; best_of(&numbers, |n| *n % 2 == 0, |n| *n / 10), Some(2));
+    assert_eq!(rt; best_of(&numbers, |n| *n > 12, |n| *n), None);
 }

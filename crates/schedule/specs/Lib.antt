@@ -10,4 +10,3 @@ pub mod Looks
 pub mod Moments
 pub mod Laws
 pub mod Clocks
-pub mod Choices

@@ -1,11 +1,12 @@
 ghost use Rattle.keeper.specs.Best.{first_best};
-ghost use Rattle.schedule.specs.Choices.{Returns};
+ghost use Rattle.keeper.specs.Choices.{Returns};
 ghost use Rattle.std.specs.Ordering.{is_lt};
 ghost use Rattle.std.specs.Prelude.{◌≡◌, Bool, filter};
 
 use keeper::{Keeper, Rank};
 
 // Of the things that pass a test the one that ranks least; of equals the first.
+// As `keeper`'s, which takes any order; here the order is total.
 pub(crate) fn best_of<X, K, P, R>(things: &[X], passes: P, rank: R) -> Option<X>
 where
     X: Copy + Drop,

@@ -1,4 +1,4 @@
-ghost use Rattle.std.specs.Prelude.{◌≡◌, ℕ, ◌^◌, List, length, nat_lt, slice_get};
+ghost use Rattle.std.specs.Prelude.{◌≡◌, ℕ, ◌^◌, ◌<◌, List, length, nat_lt, slice_get, slice_index, slice_set};
 ghost use Rattle.store.specs.Cells.{put_cells};
 ghost use Rattle.store.specs.Formats.{FormatLaws};
 
@@ -38,16 +38,40 @@ pub trait Format {
     fn has(memory: &[Self::Unit], c: u32) -> bool
         ensures { result ≡ nat_lt c (length (cells memory.now)) };
 
-    // What a cell holds, if it is there.
-    fn read(memory: &[Self::Unit], c: u32) -> Option<u32>
-        ensures { result ≡ slice_get (cells memory.now) c };
+    // What a cell that is there holds.
+    fn read(memory: &[Self::Unit], c: u32) -> u32
+        requires { c < length (cells memory.now) }
+        ensures { result ≡ slice_index (cells memory.now) c };
 
     // Whether a cell is wide enough for a value.
     fn holds(c: u32, v: u32) -> bool
         ensures { result ≡ nat_lt v (256 ^ width c) };
 
-    // Makes a cell a value, if it is there and holds the value.
+    // Makes a cell that is there a value that it holds.
     fn write(memory: &mut [Self::Unit], c: u32, v: u32)
-        ensures after { cells memory.new ≡ put_cells (cells memory.old) width c v }
+        requires there { c < length (cells memory.old) }
+        requires fits { v < 256 ^ width c }
+        ensures after { cells memory.new ≡ slice_set (cells memory.old) c v }
         ensures rest { rest memory.new ≡ rest memory.old };
+
+    // What a cell holds, if it is there.
+    fn get(memory: &[Self::Unit], c: u32) -> Option<u32>
+        ensures { result ≡ slice_get (cells memory.now) c }
+    {
+        if Self::has(memory, c) {
+            Some(Self::read(memory, c))
+        } else {
+            None
+        }
+    }
+
+    // Makes a cell a value, if it is there and holds the value.
+    fn put(memory: &mut [Self::Unit], c: u32, v: u32)
+        ensures after { cells memory.new ≡ put_cells (cells memory.old) width c v }
+        ensures rest { rest memory.new ≡ rest memory.old }
+    {
+        if Self::has(memory, c) && Self::holds(c, v) {
+            Self::write(memory, c, v);
+        }
+    }
 }

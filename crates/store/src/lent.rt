@@ -62,7 +62,7 @@ impl<'a, F: Format> Store for LentStore<'a, F> {
     }
 
     fn get(&self, c: u32) -> Result<u32, Refusal> {
-        F::read(self.memory, c).ok_or(Refusal::NoCell)
+        F::get(self.memory, c).ok_or(Refusal::NoCell)
     }
 
     fn put(&mut self, c: u32, v: u32) -> Result<(), Refusal> {
@@ -72,7 +72,7 @@ impl<'a, F: Format> Store for LentStore<'a, F> {
         if !F::holds(c, v) {
             return Err(Refusal::BadValue);
         }
-        F::write(self.memory, c, v);
+        F::put(self.memory, c, v);
         Ok(())
     }
 }

@@ -38,8 +38,8 @@ impl Format for Words {
         (c as usize) < cells_in(memory).len()
     }
 
-    fn read(memory: &[u32], c: u32) -> Option<u32> {
-        cells_in(memory).get(c as usize).copied()
+    fn read(memory: &[u32], c: u32) -> u32 {
+        Self::get(memory, c).unwrap()
     }
 
     // A word holds every value.
@@ -47,8 +47,16 @@ impl Format for Words {
         true
     }
 
-    #[tactic(auto, using(crate::proofs::Fronts::fronts))]
     fn write(memory: &mut [u32], c: u32, v: u32) {
+        Self::put(memory, c, v);
+    }
+
+    fn get(memory: &[u32], c: u32) -> Option<u32> {
+        cells_in(memory).get(c as usize).copied()
+    }
+
+    #[tactic(auto, using(crate::proofs::Fronts::fronts))]
+    fn put(memory: &mut [u32], c: u32, v: u32) {
         if Self::has(memory, c) {
             memory[c as usize] = v;
         }

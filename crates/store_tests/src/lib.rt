@@ -8,6 +8,8 @@ mod layouts;
 #[cfg(test)]
 mod lent;
 #[cfg(test)]
+mod plain;
+#[cfg(test)]
 mod sizes;
 #[cfg(test)]
 mod values;
