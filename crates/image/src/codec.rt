@@ -5,7 +5,8 @@ ghost use Rattle.store.specs.Words.{word_cells};
 use crate::image::Image;
 use layout::width;
 use std::alloc::{AllocError, Global};
-use store::{Format, cells_in};
+use store::cells_in;
+use store::total::TotalFormat;
 
 // The cells of an image; encoded again, before the bytes past them, they are the image.
 pub fn decode(heap: Global, image: &[u8]) -> Result<Vec<u32>, AllocError>
@@ -15,7 +16,7 @@ pub fn decode(heap: Global, image: &[u8]) -> Result<Vec<u32>, AllocError>
     let mut cells = Vec::new(heap);
     // a loop, since over `map_while(..).collect(heap)` the goal `returns-clause-answer` stayed open
     for c in 0..Image::count(image) {
-        cells.push(Image::get(image, c).unwrap_or(0))?;
+        cells.push(Image::read(image, c).unwrap_or(0))?;
     }
     Ok(cells)
 }

@@ -5,14 +5,15 @@ ghost use Rattle.image.specs.Laws.{image_laws};
 
 use crate::numbers::read_number;
 use layout::{CELLS, place, width};
-use store::{Format, LentStore};
+use store::LentStore;
+use store::total::TotalFormat;
 
 // The cells in sequence at the layout's widths, high byte first.
 pub enum Image {}
 
 pub type ImageStore<'a> = LentStore<'a, Image>;
 
-impl Format for Image {
+impl TotalFormat for Image {
     type Unit = u8;
 
     ghost cells = { image_cells };
@@ -43,20 +44,8 @@ impl Format for Image {
         c < CELLS && place(c) + width(c) <= bytes.len()
     }
 
-    fn read(bytes: &[u8], c: u32) -> u32 {
-        Self::get(bytes, c).unwrap()
-    }
-
-    fn holds(c: u32, v: u32) -> bool {
-        u64::from(v) < 256u64.pow(width(c) as u32)
-    }
-
-    fn write(bytes: &mut [u8], c: u32, v: u32) {
-        Self::put(bytes, c, v);
-    }
-
     // The cell's place is worked out once, for the test and for the bytes.
-    fn get(bytes: &[u8], c: u32) -> Option<u32> {
+    fn read(bytes: &[u8], c: u32) -> Option<u32> {
         if c >= CELLS {
             return None;
         }
@@ -68,7 +57,11 @@ impl Format for Image {
         Some(read_number(&bytes[start..end]))
     }
 
-    fn put(bytes: &mut [u8], c: u32, v: u32) {
+    fn holds(c: u32, v: u32) -> bool {
+        u64::from(v) < 256u64.pow(width(c) as u32)
+    }
+
+    fn write(bytes: &mut [u8], c: u32, v: u32) {
         if Self::has(bytes, c) && Self::holds(c, v) {
             write_cell(bytes, c, v);
         }

@@ -10,3 +10,4 @@ pub mod Looks
 pub mod Moments
 pub mod Laws
 pub mod Clocks
+pub mod Choices

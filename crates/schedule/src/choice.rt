@@ -1,5 +1,5 @@
 ghost use Rattle.keeper.specs.Best.{first_best};
-ghost use Rattle.keeper.specs.Choices.{Returns};
+ghost use Rattle.schedule.specs.Choices.{Returns};
 ghost use Rattle.std.specs.Ordering.{is_lt};
 ghost use Rattle.std.specs.Prelude.{◌≡◌, Bool, filter};
 

@@ -6,6 +6,7 @@ mod entry;
 mod format;
 mod lent;
 mod store;
+pub mod total;
 mod words;
 
 pub use entries::put_each;

@@ -3,8 +3,8 @@ ghost use Rattle.std.specs.Prelude.{◌≡◌, ◌≤◌, ◌++◌, length};
 ghost use Rattle.store.specs.Laws.{word_laws};
 ghost use Rattle.store.specs.Words.{Words as EachWord, word_cells, word_rest, word_width};
 
-use crate::format::Format;
 use crate::lent::LentStore;
+use crate::total::TotalFormat;
 use layout::CELLS;
 
 // One cell in each word of a memory.
@@ -12,7 +12,7 @@ pub enum Words {}
 
 pub type WordStore<'a> = LentStore<'a, Words>;
 
-impl Format for Words {
+impl TotalFormat for Words {
     type Unit = u32;
 
     ghost cells = { word_cells };
@@ -38,8 +38,8 @@ impl Format for Words {
         (c as usize) < cells_in(memory).len()
     }
 
-    fn read(memory: &[u32], c: u32) -> u32 {
-        Self::get(memory, c).unwrap()
+    fn read(memory: &[u32], c: u32) -> Option<u32> {
+        cells_in(memory).get(c as usize).copied()
     }
 
     // A word holds every value.
@@ -47,16 +47,8 @@ impl Format for Words {
         true
     }
 
-    fn write(memory: &mut [u32], c: u32, v: u32) {
-        Self::put(memory, c, v);
-    }
-
-    fn get(memory: &[u32], c: u32) -> Option<u32> {
-        cells_in(memory).get(c as usize).copied()
-    }
-
     #[tactic(auto, using(crate::proofs::Fronts::fronts))]
-    fn put(memory: &mut [u32], c: u32, v: u32) {
+    fn write(memory: &mut [u32], c: u32, v: u32) {
         if Self::has(memory, c) {
             memory[c as usize] = v;
         }

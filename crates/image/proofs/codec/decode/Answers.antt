@@ -10,7 +10,7 @@ pub loop-c-preserved : goal.loop-c-preserved
 loop-c-preserved c =
     let cs = image_cells c.args.image.now in
     let below : c.loop-c.c < length cs = omega arith in
-    let cell = c.unwrap_or.ensures ∙ ap (λ o. unwrap_or o 0) c.get.ensures ∙ unwrap_or-slice_get cs c.loop-c.c 0 in
+    let cell = c.unwrap_or.ensures ∙ ap (λ o. unwrap_or o 0) c.read.ensures ∙ unwrap_or-slice_get cs c.loop-c.c 0 in
     c.in_ok-push.ensures.items ∙ ap₂ (λ xs x. xs ++ (x ∷ [])) c.loop-c.invariant cell ∙ sym (take_more cs c.loop-c.c 0 below)
 
 pub returns-in_err-push-clause-trip : goal.returns-in_err-push-clause-trip

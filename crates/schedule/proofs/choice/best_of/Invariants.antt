@@ -1,5 +1,5 @@
 use Rattle.std.proofs.Common.{Bool}
-use Rattle.keeper.specs.Choices.{Returns}
+use Rattle.schedule.specs.Choices.{Returns}
 use Rattle.keeper.proofs.Offering.{Kept}
 use Rattle.schedule.proofs.choice.best_of.Given as goal
 

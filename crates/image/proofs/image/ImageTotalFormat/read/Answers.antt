@@ -3,7 +3,7 @@ use Rattle.std.proofs.lemmas.List.{length-drop, length-take}
 use Rattle.std.proofs.lemmas.Option.{slice_get-get_or}
 use Rattle.image.proofs.Placed.{absent, read_at, there}
 use Rattle.image.specs.Image.{image_cells}
-use Rattle.image.proofs.image.ImageFormat.get.Goals as goal
+use Rattle.image.proofs.image.ImageTotalFormat.read.Goals as goal
 
 pub read_number-requires : goal.read_number-requires
 read_number-requires c = simp (length-take, length-drop) (omega arith)
